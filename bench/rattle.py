@@ -9,14 +9,15 @@ HERE = os.path.dirname(os.path.realpath(__file__))
 TOP = os.path.dirname(HERE)
 ENTRIES = ("cache_base cache_io disk_theory jenkins_hash entry_name entry_key entry_parts entry_metadata chunk_store "
            "entry_file index_record record_list index_file index_journal index_map index_theory")
+DISK = "machine_files folder_paths pending_syncs real_disk"
 # The crates below each small program, and those that it names itself.
 PROGRAMS = {
     "hash": ("cache_base jenkins_hash", "jenkins_hash"),
     "index": ("cache_base jenkins_hash entry_key entry_parts entry_metadata index_record record_list index_file",
               "cache_base jenkins_hash index_record record_list index_file"),
-    "open_index": (f"{ENTRIES} startup_read real_disk",
+    "open_index": (f"{ENTRIES} startup_read {DISK}",
                    "cache_base cache_io disk_theory index_record index_map startup_read real_disk"),
-    "update": (f"{ENTRIES} index_update real_disk",
+    "update": (f"{ENTRIES} index_update {DISK}",
                "cache_base cache_io disk_theory index_record index_map index_update real_disk"),
 }
 

@@ -1,9 +1,12 @@
 //! Where bytes go.
 
-ghost use Rattle.std.specs.Prelude.{ℕ, ◌<◌, ◌≤◌, List, length, take, OnOk, OnErr, IfOk, IsErrOf};
+ghost use Rattle.std.specs.Prelude.{ℕ, ◌≡◌, ◌<◌, ◌≤◌, List, length, take, OnOk, OnErr, IfOk, IsErrOf};
 ghost use Rattle.std.specs.declared.option.Option.{Option};
 ghost use Rattle.std.specs.Io.KnownBytes.{Appends, WriteAppends};
 ghost use Rattle.cache_base.specs.Causes.{HasCause};
+ghost use Rattle.cache_io.specs.declared.sink.SinkFault.TheVariants.{Memory};
+
+use cache_base::NoMemory;
 
 /// Why a write took nothing.
 #[derive(Clone, Copy, Debug, PartialEq, Eq)]
@@ -12,6 +15,14 @@ pub enum SinkFault {
     Failed,
     /// Memory ran out.
     Memory,
+}
+
+impl From<NoMemory> for SinkFault {
+    ghost from_gives = { λ _ e. e ≡ Memory };
+
+    fn from(_: NoMemory) -> Self {
+        SinkFault::Memory
+    }
 }
 
 /// Where bytes go.

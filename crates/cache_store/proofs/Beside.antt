@@ -11,8 +11,9 @@ use Rattle.disk_theory.specs.Image.{Files}
 use Rattle.disk_theory.specs.State.{State, standing}
 use Rattle.file_handles.proofs.Reading.HeldChunkLaws.{chunks_on}
 use Rattle.file_handles.specs.Cache.{Cache}
-use Rattle.file_handles.specs.Kept.{Kept}
-use Rattle.file_handles.specs.Stands.{HandlesStand, IsAt, KeepsWhere}
+use Rattle.handle_table.specs.Kept.{Kept}
+use Rattle.handle_table.specs.Standing.{HandlesStand}
+use Rattle.file_handles.specs.Stands.{IsAt, KeepsWhere}
 
 -- the machine with another moment, another rest and another mark
 abbrev pub with_beside : Machine → ℕ → List (List ℕ) → Option (List ℕ) → Machine

@@ -1,4 +1,5 @@
 pub mod CountedChanges
+pub mod GoesBy
 pub mod HasEntry
 pub mod InUseLaws
 pub mod IndexAchieves
@@ -7,8 +8,6 @@ pub mod LearntAchieves
 pub mod ListDoes
 pub mod OneLearnt
 pub mod PastHeader
-pub mod RecordsAtEnd
 pub mod ScanAlike
 pub mod SparedIndex
-pub mod TellsAlike
 pub mod UpdateOver

@@ -1,9 +1,6 @@
 pub mod FaultLine
 pub mod PrintedLaws
 pub mod ReplyLaws
-pub mod SaidFront
-pub mod SaidMore
 pub mod SaidWhole
-pub mod SayingLaws
 pub mod TakenMore
 pub mod Unsaid

@@ -5,5 +5,4 @@ pub mod ClosedInUse
 pub mod Opened
 pub mod OpenedIndex
 pub mod RestIsOne
-pub mod ScanBegins
 pub mod StartAlong

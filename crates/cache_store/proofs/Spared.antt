@@ -9,7 +9,7 @@ use Rattle.cache_theory.proofs.Rested.{proper_rested, proper_unmarked, with_rest
 use Rattle.disk_theory.specs.State.{State}
 use Rattle.disk_theory.specs.declared.place.Place.TheVariants.{Doomed}
 use Rattle.file_handles.specs.Cache.{Cache, cache_at}
-use Rattle.file_handles.specs.Kept.{Kept}
+use Rattle.handle_table.specs.Kept.{Kept}
 use Rattle.file_handles.specs.Stands.{IsAt, KeepsWhere}
 use Rattle.index_keeps.proofs.KeepsLaws.{spared_is_crash_kept}
 use Rattle.startup_read.specs.Spares.{SparesEntries}

@@ -9,8 +9,8 @@ use Rattle.disk_theory.specs.Account.{Accounts, Ending}
 use Rattle.disk_theory.specs.declared.disk.Disk.{Ghosts}
 use Rattle.file_handles.specs.Closing.{writes_draft}
 use Rattle.file_handles.specs.Finishing.{finish_syncs}
-use Rattle.file_handles.specs.Kept.{Kept, object_in}
-use Rattle.file_handles.specs.declared.object.Object.{Object}
+use Rattle.handle_table.specs.Kept.{Kept, object_in}
+use Rattle.handle_table.specs.declared.object.Object.{Object}
 use Rattle.startup_read.specs.Closing.{closing_syncs}
 
 -- a bound is one where another is that is no larger

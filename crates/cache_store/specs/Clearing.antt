@@ -3,14 +3,15 @@ use Rattle.std.specs.List.{AllByRecursion, IsDistinct}
 use Rattle.std.specs.Prelude.{Bool, IfOk, IsSome, IsTrue, List, None, OnOk, Option, Result, Some, false, length, not, ℕ, ⊤, ◌==◌, ◌||◌, ◌≡◌}
 use Rattle.cache_base.specs.Names.{AreSorted, has_name}
 use Rattle.cache_base.specs.declared.name.Name.{Name}
-use Rattle.cache_store.specs.Evicting.{AreOthers, has_file}
+use Rattle.memory_index.specs.Forgetting.{AreOthers}
+use Rattle.cache_store.specs.Evicting.{has_file}
 use Rattle.cache_store.specs.Open.{KeepsWhere, Represents, Tells}
 use Rattle.cache_store.specs.Performing.{GoesBy, HadEffect, PerformsFor}
-use Rattle.cache_store.specs.Records.{AreAtEnd}
+use Rattle.memory_index.specs.Records.{AreAtEnd}
 use Rattle.cache_store.specs.Session.{Session}
 use Rattle.cache_store.specs.declared.fault.StoreFault.{StoreFault}
-use Rattle.cache_store.specs.declared.outcome.Verdict.{Verdict}
-use Rattle.cache_store.specs.declared.memory_index.MemoryIndex.{MemoryIndex}
+use Rattle.cache_replies.specs.declared.verdict.Verdict.{Verdict}
+use Rattle.memory_index.specs.declared.memory_index.MemoryIndex.{MemoryIndex}
 use Rattle.cache_theory.specs.Command.{Command}
 use Rattle.cache_theory.specs.Command.Command.{ClearNames, ClearOrigin, Resume}
 use Rattle.cache_theory.specs.Covers.{covered_by, covers}
@@ -29,9 +30,10 @@ use Rattle.entry_file.specs.EntryFile.{found}
 use Rattle.entry_file.specs.Version.{Version}
 use Rattle.entry_key.specs.Tags.{value_hash}
 use Rattle.file_handles.specs.Cache.{Cache}
-use Rattle.file_handles.specs.Kept.{Kept}
-use Rattle.file_handles.specs.Stands.{HandlesStand, RepresentsSome}
-use Rattle.file_handles.specs.Users.{users_of}
+use Rattle.handle_table.specs.Kept.{Kept}
+use Rattle.handle_table.specs.Standing.{HandlesStand}
+use Rattle.file_handles.specs.Stands.{RepresentsSome}
+use Rattle.handle_table.specs.Users.{users_of}
 use Rattle.index_map.specs.Known.{IsKnown, Known}
 use Rattle.index_record.specs.declared.record.IndexRecord.{IndexRecord}
 use Rattle.index_theory.specs.Ever.{entries_on}

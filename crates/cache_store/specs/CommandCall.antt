@@ -13,18 +13,18 @@ use Rattle.cache_store.specs.InUse.{SparesIndex}
 use Rattle.cache_store.specs.IndexCalls.{Flushes, IsFresh, IsWritten, LooksOnceAt, MakesNoCall, NeverSyncs, OnlyLooks, ReadsEntriesOf, Rebuilds, SyncsAll, names_read}
 use Rattle.cache_store.specs.Open.{LeavesOpen}
 use Rattle.cache_store.specs.Performing.{HadEffect, PerformsFor}
-use Rattle.cache_store.specs.Printed.{HasBadKey, Prints, is_plain}
+use Rattle.cache_replies.specs.Printed.{HasBadKey, Prints, is_plain}
 use Rattle.cache_store.specs.Reads.{AreHeld, LastIsFirst, LeavesChunks, PutsChunks}
 use Rattle.cache_store.specs.Records.{KeepsRecords}
-use Rattle.cache_store.specs.Saying.{TakesMore}
+use Rattle.cache_replies.specs.Saying.{TakesMore}
 use Rattle.cache_store.specs.Session.{open_of, session}
 use Rattle.cache_store.specs.StoppedClearing.{ClearsUnderMark}
 use Rattle.cache_store.specs.Syncs.{syncs_of}
 use Rattle.cache_store.specs.Verifying.{PrintsFound}
 use Rattle.cache_store.specs.declared.fault.StoreFault.{StoreFault}
 use Rattle.cache_store.specs.declared.fault.StoreFault.TheVariants as fault
-use Rattle.cache_store.specs.declared.outcome.Verdict.{Verdict}
-use Rattle.cache_store.specs.declared.outcome.Verdict.TheVariants as verdict
+use Rattle.cache_replies.specs.declared.verdict.Verdict.{Verdict}
+use Rattle.cache_replies.specs.declared.verdict.Verdict.TheVariants as verdict
 use Rattle.cache_store.specs.declared.store.Store.{Store}
 use Rattle.cache_theory.specs.Command.{Command}
 use Rattle.cache_theory.specs.Command.Command.{Doom, Evict, Flush, PutAlt, ReadPart, Rebuild, Resume, Verify}

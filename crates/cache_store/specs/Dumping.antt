@@ -4,8 +4,8 @@ use Rattle.cache_base.specs.declared.limits.TheConstants.{BODY_MAX}
 use Rattle.cache_export.specs.Dump.{back_bytes, front_bytes, item_bytes}
 use Rattle.cache_export.specs.Dumped.{may_dump, versions_in, within}
 use Rattle.cache_export.specs.declared.limits.TheConstants.{DUMP_MAX}
-use Rattle.cache_store.specs.Said.{Saying}
-use Rattle.cache_store.specs.Saying.{SaysMore}
+use Rattle.cache_replies.specs.Said.{Saying}
+use Rattle.cache_replies.specs.Saying.{SaysMore}
 use Rattle.cache_theory.specs.Table.{Table}
 use Rattle.entry_file.specs.EntryFile.{read, whole_in}
 use Rattle.entry_file.specs.Version.{Version}

@@ -4,7 +4,7 @@ use Rattle.std.specs.Prelude.{Bool, IsSome, IsTrue, List, None, Result, false, f
 use Rattle.cache_base.specs.Names.{has_name}
 use Rattle.cache_base.specs.declared.name.Name.{Name}
 use Rattle.cache_store.specs.Open.{Represents}
-use Rattle.cache_store.specs.Records.{AreAtEnd}
+use Rattle.memory_index.specs.Records.{AreAtEnd}
 use Rattle.cache_store.specs.Session.{Session}
 use Rattle.cache_theory.specs.Command.{Command}
 use Rattle.cache_theory.specs.Command.Command.{Evict}
@@ -20,14 +20,15 @@ use Rattle.disk_theory.specs.declared.disk.DiskFault.{DiskFault}
 use Rattle.disk_theory.specs.declared.place.Place.TheVariants.{Entry}
 use Rattle.evictor.specs.Evict.{victims}
 use Rattle.file_handles.specs.Cache.{Cache}
-use Rattle.file_handles.specs.Kept.{Kept}
+use Rattle.handle_table.specs.Kept.{Kept}
 use Rattle.file_handles.specs.Removing.{LastChangeFails}
 use Rattle.file_handles.specs.Stands.{KeepsWhere, ReachesHistory, RepresentsSome}
-use Rattle.file_handles.specs.Users.{AreOpenNames, users_of}
+use Rattle.handle_table.specs.Users.{AreOpenNames, users_of}
 use Rattle.index_map.specs.Known.{IsKnown, Known, SameBase}
 use Rattle.index_record.specs.declared.record.IndexRecord.{IndexRecord}
 use Rattle.index_theory.specs.Ever.{entries_on}
 use Rattle.record_list.specs.Lists.{record_at, same_name}
+use Rattle.memory_index.specs.Forgetting.{AreOthers}
 
 -- these names have to go by the records of the map, so that all take at most so many KB; no name in use is among them
 pub record AreVictims (map : Known) (k : Kept) (kb : ℕ) (names : List Name) : Type 0 where
@@ -62,18 +63,6 @@ pub record DoomsAll (names : List Name) (answer : Result (Unit {0}) DiskFault)
   pub leaves : (crash : Bool) (h : History)
       → AllByRecursion (λ name. is_touched h.marks name.0 ≡ true) names → KeepsWhere crash before h
       → ReachesHistory crash (record h { machine = all_doomed h.machine names }) answer after
-
--- these are the records but for those of some names
-abbrev pub AreOthers : List IndexRecord → List Name → List IndexRecord → Type 0
-AreOthers records names left =
-    (q : Name) → record_at left q ≡ (if is_among q.0 names then None else record_at records q)
-
--- the records of these names are out, and the others and the base are as before
-pub record Forgets (names : List Name) (old new : Known) : Type 0 where
-  pub records : AreOthers old.records names new.records
-  pub seen : (q : Name) → record_at new.seen q
-      ≡ (if is_among q.0 names then None else record_at old.seen q)
-  pub base : SameBase old new
 
 -- the records in memory after an eviction: those once the update has ended, without the records of all that had to go,
 -- whether a file stood there or not

@@ -4,7 +4,7 @@ use Rattle.std.specs.Io.KnownBytes.{Appends}
 use Rattle.std.specs.Prelude.{Bool, Err, IsTrue, List, None, Ok, Option, Result, Some, codes, false, length, take, true, ℕ, ⊤, ◌%◌, ◌++◌, ◌-◌, ◌≡◌, ◌⊎◌}
 use Rattle.cache_base.specs.Limits.{chunk_size}
 use Rattle.cache_export.specs.Dump.{head as dump_head}
-use Rattle.cache_store.specs.EntryText.{head_text}
+use Rattle.cache_replies.specs.EntryText.{head_text}
 use Rattle.cache_store.specs.Open.{KeepsWhere, Represents, Tells}
 use Rattle.cache_store.specs.Session.{Session}
 use Rattle.cache_store.specs.declared.fault.StoreFault.{StoreFault}

@@ -1,15 +1,16 @@
 -- Replies that only what is in memory tells, on any disk, also on one that tells nothing.
 use Rattle.std.specs.Io.KnownBytes.{Appends}
 use Rattle.std.specs.Prelude.{List, OnErr, OnOk, Option, Result, codes, [], ℕ, ◌∷◌, ◌≡◌, ◌⊎◌}
-use Rattle.cache_store.specs.Answering.{AnswersTo, IsReplyCut}
+use Rattle.cache_store.specs.Answering.{AnswersTo}
+use Rattle.cache_replies.specs.Completing.{IsReplyCut}
 use Rattle.cache_store.specs.Open.{Represents}
 use Rattle.cache_store.specs.Records.{has_record}
-use Rattle.cache_store.specs.Said.{IsCut, Saying}
+use Rattle.cache_replies.specs.Said.{IsCut, Saying}
 use Rattle.cache_store.specs.Session.{Open}
-use Rattle.cache_store.specs.declared.answered.Answered.{Answered}
+use Rattle.cache_replies.specs.declared.answered.Answered.{Answered}
 use Rattle.cache_store.specs.declared.fault.StoreFault.{StoreFault}
-use Rattle.cache_store.specs.declared.outcome.Verdict.{Verdict}
-use Rattle.cache_store.specs.declared.memory_index.MemoryIndex.{MemoryIndex}
+use Rattle.cache_replies.specs.declared.verdict.Verdict.{Verdict}
+use Rattle.memory_index.specs.declared.memory_index.MemoryIndex.{MemoryIndex}
 use Rattle.cache_theory.specs.Command.{Command, Reply}
 use Rattle.cache_theory.specs.Command.Command.{HasEntry, HasGiven}
 use Rattle.cache_theory.specs.Machine.{Machine}

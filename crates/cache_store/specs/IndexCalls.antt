@@ -2,7 +2,7 @@
 use Rattle.std.specs.Prelude.{IsTrue, List, None, Option, Result, Some, [], false, length, take, true, ℕ, ⊤, ◌*◌, ◌+◌, ◌<◌, ◌≡◌, ◌≢◌, ◌≤◌}
 use Rattle.cache_base.specs.declared.limits.TheConstants.{CHANGED_MAX}
 use Rattle.cache_base.specs.declared.name.Name.{Name}
-use Rattle.cache_store.specs.declared.memory_index.MemoryIndex.{MemoryIndex}
+use Rattle.memory_index.specs.declared.memory_index.MemoryIndex.{MemoryIndex}
 use Rattle.cache_theory.specs.Command.{Command}
 use Rattle.cache_theory.specs.Command.Command.{At, ClearNames, ClearOrigin, Close, ElementOf, Dump, Evict, EvictNames, Finish, FinishAs, Flush, Get, GetAlt, HasEntry, ListRecords, MainBody, OpenKey, ReadPart, Rebuild, Resume, ResumeNames, StepUpdate, UpdateState, Verify}
 use Rattle.disk_theory.specs.Calls.{counted_read}
@@ -12,7 +12,7 @@ use Rattle.disk_theory.specs.declared.disk.DiskFault.{DiskFault}
 use Rattle.disk_theory.specs.declared.place.Place.{Place}
 use Rattle.entry_file.specs.Looks.{meta_looks}
 use Rattle.file_handles.specs.Closing.{writes_draft}
-use Rattle.file_handles.specs.Kept.{Kept}
+use Rattle.handle_table.specs.Kept.{Kept}
 use Rattle.index_map.specs.Known.{Known, changed}
 use Rattle.startup_read.specs.Refreshing.{Refreshes}
 use Rattle.startup_read.specs.Writing.{WritesIndex as WritesWhole}

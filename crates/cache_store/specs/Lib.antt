@@ -5,7 +5,6 @@ pub mod CommandCall
 pub mod DoneFor
 pub mod Dumping
 pub mod EndsUpdate
-pub mod EntryText
 pub mod Evicting
 pub mod Faulting
 pub mod Faults
@@ -18,15 +17,10 @@ pub mod Open
 pub mod Outcomes
 pub mod Performing
 pub mod Prefix
-pub mod Showing
-pub mod Printed
 pub mod Records
 pub mod Reads
 pub mod Replied
-pub mod Said
-pub mod Saying
 pub mod Session
 pub mod StoppedClearing
 pub mod Syncs
-pub mod Texts
 pub mod Verifying

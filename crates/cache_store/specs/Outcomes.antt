@@ -2,14 +2,14 @@
 use Rattle.std.specs.Io.KnownBytes.{Appends}
 use Rattle.std.specs.Prelude.{Err, IfOk, IsTrue, List, Ok, OnErr, OnOk, Option, Result, ℕ, ◌≡◌, ◌≢◌}
 use Rattle.cache_store.specs.Faulting.{StaysAs}
-use Rattle.cache_store.specs.Said.{IsCut}
+use Rattle.cache_replies.specs.Said.{IsCut}
 use Rattle.cache_store.specs.Session.{open_of, session}
 use Rattle.cache_store.specs.declared.outcome.Outcome.{Outcome}
 use Rattle.cache_store.specs.declared.outcome.Outcome.TheVariants as outcome
 use Rattle.cache_store.specs.declared.fault.StoreFault.{StoreFault}
 use Rattle.cache_store.specs.declared.fault.StoreFault.TheVariants as fault
-use Rattle.cache_store.specs.declared.outcome.Verdict.{Verdict}
-use Rattle.cache_store.specs.declared.outcome.Verdict.TheVariants as verdict
+use Rattle.cache_replies.specs.declared.verdict.Verdict.{Verdict}
+use Rattle.cache_replies.specs.declared.verdict.Verdict.TheVariants as verdict
 use Rattle.cache_store.specs.declared.store.Store.{Store}
 use Rattle.cache_theory.specs.Faulted.{fault_line}
 use Rattle.disk_theory.specs.Account.{Ending, Looks}

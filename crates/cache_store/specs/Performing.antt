@@ -1,15 +1,18 @@
 -- What one command does.
 use Rattle.std.specs.Prelude.{Bool, Err, IfErr, IfOk, IfSome, IsTrue, List, Ok, OnErr, OnOk, Option, Result, false, true, ℕ, ⊤, ◌≡◌, ◌⊎◌}
 use Rattle.std.specs.Io.KnownBytes.{Appends}
-use Rattle.cache_store.specs.Answering.{AnswersTo, IsReplyCut, outcome_of}
+use Rattle.cache_store.specs.Answering.{AnswersTo}
+use Rattle.cache_replies.specs.Completing.{IsReplyCut}
+use Rattle.cache_replies.specs.Answers.{outcome_of}
 use Rattle.cache_store.specs.DoneFor.{AreOfShelf, DoneBy, IsOfShelf}
 use Rattle.cache_store.specs.Open.{KeepsTo, KeepsWhere, Represents, Tells}
-use Rattle.cache_store.specs.Records.{AreAtEnd, has_record}
+use Rattle.memory_index.specs.Records.{AreAtEnd}
+use Rattle.cache_store.specs.Records.{has_record}
 use Rattle.cache_store.specs.Replied.{replied}
-use Rattle.cache_store.specs.Said.{Saying}
+use Rattle.cache_replies.specs.Said.{Saying}
 use Rattle.cache_store.specs.Session.{Session}
-use Rattle.cache_store.specs.declared.answered.Answered.{Answered}
-use Rattle.cache_store.specs.declared.outcome.Verdict.{Verdict}
+use Rattle.cache_replies.specs.declared.answered.Answered.{Answered}
+use Rattle.cache_replies.specs.declared.verdict.Verdict.{Verdict}
 use Rattle.cache_store.specs.declared.fault.StoreFault.{StoreFault}
 use Rattle.cache_store.specs.declared.fault.StoreFault.TheVariants as fault
 use Rattle.cache_theory.specs.Command.{Command}

@@ -1,17 +1,17 @@
 -- What a `read` finds held, and what it leaves so.
 use Rattle.std.specs.Prelude.{Some, if◌then◌else◌, is_some, min, ℕ, ⊤, ◌+◌, ◌<◌, ◌≡◌, ◌≤◌, ◌⊎◌}
 use Rattle.chunk_cache.specs.Cached.{StandsFirst}
-use Rattle.cache_store.specs.declared.outcome.Verdict.{Verdict}
-use Rattle.cache_store.specs.declared.outcome.Verdict.TheVariants as outcome
+use Rattle.cache_replies.specs.declared.verdict.Verdict.{Verdict}
+use Rattle.cache_replies.specs.declared.verdict.Verdict.TheVariants as outcome
 use Rattle.cache_theory.specs.Command.{Command}
 use Rattle.cache_theory.specs.Command.Command.{Close, PutAlt, ReadPart}
 use Rattle.file_handles.specs.Closing.{chunks_closed}
-use Rattle.file_handles.specs.Held.{body_len_in}
-use Rattle.file_handles.specs.HeldChunks.{SameChunks}
-use Rattle.file_handles.specs.Kept.{Kept, object_in, use_at}
+use Rattle.handle_table.specs.Held.{body_len_in}
+use Rattle.handle_table.specs.HeldChunks.{SameChunks}
+use Rattle.handle_table.specs.Kept.{Kept, object_in, use_at}
 use Rattle.file_handles.specs.PuttingAlt.{chunks_but_own}
 use Rattle.file_handles.specs.Reading.{IsOfChunk, IsPartHeld}
-use Rattle.file_handles.specs.declared.object.Object.{Object}
+use Rattle.handle_table.specs.declared.object.Object.{Object}
 
 -- of these bytes of the body each that is on the disk is in a chunk that is held
 abbrev pub AreHeld : Kept → ℕ → ℕ → ℕ → Type 0

@@ -1,11 +1,12 @@
 -- A store that is open, over its disk.
 use Rattle.std.specs.Prelude.{Bool, ℕ}
-use Rattle.cache_store.specs.declared.memory_index.MemoryIndex.{MemoryIndex}
+use Rattle.memory_index.specs.declared.memory_index.MemoryIndex.{MemoryIndex}
 use Rattle.cache_store.specs.declared.store.Store.{Store}
 use Rattle.disk_theory.specs.State.{State}
 use Rattle.disk_theory.specs.declared.disk.Disk.{Ghosts}
 use Rattle.file_handles.specs.Cache.{Cache}
-use Rattle.file_handles.specs.Kept.{Kept, kept}
+use Rattle.handle_table.specs.Kept.{Kept}
+use Rattle.file_handles.specs.Kept.{kept}
 
 -- what a store keeps: the handles, the moment, and the index in memory
 pub record Open : Type 0 where

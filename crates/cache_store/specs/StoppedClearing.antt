@@ -3,7 +3,7 @@ use Rattle.std.specs.List.{AllByRecursion}
 use Rattle.std.specs.Prelude.{false, List, None, Some, ℕ, ⊤, ◌≡◌, ◌⊎◌}
 use Rattle.cache_base.specs.declared.name.Name.{Name}
 use Rattle.cache_store.specs.Open.{KeepsTo, Represents, StartsOn, Tells}
-use Rattle.cache_store.specs.Records.{AreAtEnd}
+use Rattle.memory_index.specs.Records.{AreAtEnd}
 use Rattle.cache_store.specs.Session.{Session}
 use Rattle.cache_theory.specs.Command.Command.{Resume}
 use Rattle.cache_theory.specs.Covers.{covered_by, covers}

@@ -6,7 +6,7 @@ use Rattle.cache_theory.specs.Command.Command.{ClearOrigin, Close, Finish, Finis
 use Rattle.disk_theory.specs.Account.{no_sync, one_sync}
 use Rattle.file_handles.specs.Closing.{close_syncs}
 use Rattle.file_handles.specs.Finishing.{finish_syncs}
-use Rattle.file_handles.specs.Kept.{Kept, object_in}
+use Rattle.handle_table.specs.Kept.{Kept, object_in}
 use Rattle.startup_read.specs.Closing.{closing_syncs}
 
 -- a clearing syncs its mark, and then all with the mark's removal

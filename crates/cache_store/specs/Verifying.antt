@@ -5,8 +5,8 @@ use Rattle.cache_check.specs.Findings.{findings}
 use Rattle.cache_check.specs.declared.finding.Finding.{Finding}
 use Rattle.cache_store.specs.Open.{Represents}
 use Rattle.cache_store.specs.Session.{Session}
-use Rattle.cache_store.specs.declared.answered.Answered.{Answered}
-use Rattle.cache_store.specs.declared.answered.Answered.TheVariants as answered
+use Rattle.cache_replies.specs.declared.answered.Answered.{Answered}
+use Rattle.cache_replies.specs.declared.answered.Answered.TheVariants as answered
 use Rattle.cache_theory.specs.Machine.{Machine, writing_names}
 use Rattle.cache_theory.specs.Text.{findings_text}
 use Rattle.index_map.specs.Known.{Known}

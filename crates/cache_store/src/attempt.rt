@@ -4,7 +4,7 @@ ghost use Rattle.std.specs.Prelude.{List, ℕ, ◌≡◌, ◌≢◌, ◌<◌, []
 ghost use Rattle.std.specs.Io.KnownBytes.{Appends};
 ghost use Rattle.cache_base.specs.declared.limits.TheConstants.{SLOTS};
 ghost use Rattle.cache_script.specs.Command.{command_of};
-ghost use Rattle.cache_store.specs.Answering.{outcome_in, left_to_say};
+ghost use Rattle.cache_replies.specs.Answers.{outcome_in, left_to_say};
 ghost use Rattle.cache_store.specs.AtClear.{ChangesAtClear, ClearsInOrder};
 ghost use Rattle.cache_store.specs.CommandCall.{HoldsAtExit, PerformsCommand};
 ghost use Rattle.cache_store.specs.Clearing.{HasNoMark, IsClearing, LeavesResumed, LeavesUncleared, origin_cleared};
@@ -13,11 +13,11 @@ ghost use Rattle.cache_store.specs.Faulting.{FailsForGood, LooksAtNothing, Looks
 ghost use Rattle.cache_store.specs.Faults.{AccountsForSink, OnlySinkFails, ending};
 ghost use Rattle.cache_store.specs.IndexCalls.{Flushes, IsFresh, IsWritten, ReadsEntriesOf, LooksOnceAt, MakesNoCall, NeverSyncs, OnlyLooks, Rebuilds, SyncsAll, names_read};
 ghost use Rattle.cache_store.specs.InUse.{SparesIndex};
-ghost use Rattle.cache_store.specs.Printed.{HasBadKey, IsPlainAnswer, is_plain};
+ghost use Rattle.cache_replies.specs.Printed.{HasBadKey, IsPlainAnswer, is_plain};
 ghost use Rattle.cache_store.specs.Reads.{AreHeld, LastIsFirst, LeavesChunks, PutsChunks};
 ghost use Rattle.cache_store.specs.Records.{KeepsRecords};
-ghost use Rattle.cache_store.specs.Said.{IsCut, saying};
-ghost use Rattle.cache_store.specs.Saying.{CutsIn, SaysMore, TakesMore};
+ghost use Rattle.cache_replies.specs.Said.{IsCut, saying};
+ghost use Rattle.cache_replies.specs.Saying.{CutsIn, SaysMore, TakesMore};
 ghost use Rattle.cache_theory.specs.Command.Command.{Doom, ElementOf, Evict, Flush, PutAlt, ReadPart, Rebuild, Resume, Verify};
 ghost use Rattle.cache_theory.specs.Faulted.{fault_line};
 ghost use Rattle.cache_theory.specs.Given.{IsGiven};
@@ -35,102 +35,21 @@ ghost use Rattle.index_theory.specs.Ever.{entries_on};
 ghost use Rattle.index_theory.specs.Leaves.{LeavesIndex};
 ghost use Rattle.index_theory.specs.Unclean.{IsUnclean};
 
-use crate::answered::{Answered, answer_of};
+use crate::StoreFault;
+use crate::handle_answers::answer_of;
+use crate::index_answers::{has, state_of};
+use crate::learn::{learn_of, learn_of_some};
 use crate::look_faults::has_failed;
-use crate::pending::Pending;
-use crate::replies::counted;
-use crate::shown::Shown;
 use crate::store::Store;
-use crate::verify::say_found;
-use crate::{StoreFault, Verdict};
 use cache_io::Sink;
-use cache_script::{Command, refusal_text};
+use cache_replies::{Answered, Shown, Verdict, say_rest, say_value};
+use cache_script::Command;
 use disk_theory::Disk;
 use std::alloc::Global;
 
-// Says a value, after a line with its length.
-fn say_value<K: Sink>(
-    alloc: Global,
-    value: &[u8],
-    reply: &mut Pending,
-    sink: &mut K,
-) -> Result<(), StoreFault>
-    ensures says { let at = saying K.Sink in let text = with_bytes (codes "value") value.now in
-        OnOk result (SaysMore (at reply.old sink.old) (at reply.new sink.new) text) }
-    ensures cut { let at = saying K.Sink in let text = with_bytes (codes "value") value.now in
-        OnErr result (CutsIn (at reply.old sink.old) (K.taken sink.new) text) }
-    ensures sink { OnlySinkFails K.Sink result sink.old sink.new }
-{
-    let head = counted(alloc, b"value", value.len() as u64)?;
-    reply.put(sink, head.as_slice())?;
-    reply.put(sink, value)?;
-    reply.put(sink, b"\n")?;
-    Ok(())
-}
-
-// Says a line that is no refusal.
-fn say_ok<K: Sink>(reply: &mut Pending, sink: &mut K, line: &[u8]) -> Result<Verdict, StoreFault>
-    ensures says { let at = saying K.Sink in
-        OnOk result (SaysMore (at reply.old sink.old) (at reply.new sink.new) line.now) }
-    ensures cut { let at = saying K.Sink in
-        OnErr result (CutsIn (at reply.old sink.old) (K.taken sink.new) line.now) }
-    ensures outcome { IfOk result (λ o. o ≡ Verdict.Ok) }
-    ensures sink { OnlySinkFails K.Sink result sink.old sink.new }
-{
-    reply.put(sink, line)?;
-    Ok(Verdict::Ok)
-}
-
-// Says what is left to say.
-fn say_rest<K: Sink>(
-    alloc: Global,
-    answered: Answered,
-    reply: &mut Pending,
-    sink: &mut K,
-) -> Result<Verdict, StoreFault>
-    ensures says { let at = saying K.Sink in
-        OnOk result
-        (SaysMore (at reply.old sink.old) (at reply.new sink.new) (left_to_say answered)) }
-    ensures cut { let at = saying K.Sink in
-        OnErr result (CutsIn (at reply.old sink.old) (K.taken sink.new) (left_to_say answered)) }
-    ensures outcome { IfOk result (λ o. o ≡ outcome_in answered) }
-    ensures resumed { answered ≡ Answered.Resumed →
-        (result ≡ Ok Verdict.Ok) × ((reply.new ≡ reply.old) × (sink.new ≡ sink.old)) }
-    ensures sink { OnlySinkFails K.Sink result sink.old sink.new }
-{
-    match answered {
-        Answered::All => Ok(Verdict::Ok),
-        Answered::Resumed => Ok(Verdict::Ok),
-        Answered::Done => say_ok(reply, sink, b"ok\n"),
-        Answered::NoneThere => say_ok(reply, sink, b"none\n"),
-        Answered::Yes => say_ok(reply, sink, b"yes\n"),
-        Answered::No => say_ok(reply, sink, b"no\n"),
-        Answered::Unknown => say_ok(reply, sink, b"unknown\n"),
-        Answered::Ready => say_ok(reply, sink, b"ready\n"),
-        Answered::Updating(names) => {
-            let line = counted(alloc, b"updating", names)?;
-            say_ok(reply, sink, line.as_slice())
-        }
-        Answered::Rebuilt(records) => {
-            let line = counted(alloc, b"rebuilt", records)?;
-            say_ok(reply, sink, line.as_slice())
-        }
-        Answered::Cleared(names) => {
-            let line = counted(alloc, b"cleared", names)?;
-            say_ok(reply, sink, line.as_slice())
-        }
-        Answered::Checked(found) => say_found(alloc, found.as_slice(), reply, sink),
-        Answered::Refused(refusal) => {
-            let text = refusal_text(alloc, &refusal)?;
-            reply.put(sink, text.as_bytes())?;
-            reply.put(sink, b"\n")?;
-            Ok(Verdict::Refused)
-        }
-    }
-}
-
 impl Store {
-    ghost use Rattle.cache_store.specs.Answering.{AnswersOver, CutsRest, IsStillToSay, SendsRest};
+    ghost use Rattle.cache_store.specs.Answering.{AnswersOver, IsStillToSay};
+    ghost use Rattle.cache_replies.specs.Completing.{CutsRest, SendsRest};
     ghost use Rattle.cache_store.specs.InMemory.{AnswersInMemory};
     ghost use Rattle.cache_store.specs.Open.{IsOpen};
     ghost use Rattle.cache_store.specs.Performing.{DoesWhatIsDone, HadEffect};
@@ -294,7 +213,7 @@ impl Store {
                 let now = self.moment;
                 let answer = self.handles.create(alloc, disk, slot, key, now);
                 self.faulting = has_failed(&answer);
-                self.index.learn_of(answer)
+                learn_of(&mut self.index, answer)
             }
             Command::OpenKey { slot, key } => {
                 let answer = self.handles.open(alloc, disk, slot, key);
@@ -304,7 +223,7 @@ impl Store {
             Command::Append { slot, bytes } => answer_of(self.handles.append(disk, slot, bytes)),
             Command::Finish { slot } => {
                 let answer = self.handles.finish(alloc, disk, slot);
-                self.index.learn_of(answer)
+                learn_of(&mut self.index, answer)
             }
             Command::FinishAs {
                 slot,
@@ -313,54 +232,54 @@ impl Store {
             } => self.finish_as(alloc, disk, slot, header, elements),
             Command::SetElement { slot, name, value } => {
                 let answer = self.handles.set_element(alloc, disk, slot, name, value);
-                self.index.learn_of(answer)
+                learn_of(&mut self.index, answer)
             }
             Command::UnsetElement { slot, name } => {
                 let answer = self.handles.unset_element(alloc, disk, slot, name);
-                self.index.learn_of_some(answer)
+                learn_of_some(&mut self.index, answer)
             }
             Command::Element { slot, name } => self.say_element(alloc, slot, name, sink),
             Command::PutAlt { slot, kind, alt } => {
                 let answer = self.handles.put_alt(alloc, disk, slot, kind, alt);
                 self.faulting = has_failed(&answer);
-                self.index.learn_of(answer)
+                learn_of(&mut self.index, answer)
             }
             Command::UseEntry { slot } => {
                 let now = self.moment;
                 let answer = self.handles.use_entry(alloc, disk, slot, now);
-                self.index.learn_of(answer)
+                learn_of(&mut self.index, answer)
             }
             Command::Pin { slot } => {
                 let answer = self.handles.set_pin(alloc, disk, slot, true);
-                self.index.learn_of(answer)
+                learn_of(&mut self.index, answer)
             }
             Command::Unpin { slot } => {
                 let answer = self.handles.set_pin(alloc, disk, slot, false);
-                self.index.learn_of(answer)
+                learn_of(&mut self.index, answer)
             }
             Command::ReadPart { slot, from, len } => {
                 self.say_read(alloc, disk, slot, from, len, sink)
             }
             Command::Close { slot } => {
                 let answer = self.handles.close(alloc, disk, slot);
-                self.index.learn_of(answer)
+                learn_of(&mut self.index, answer)
             }
             Command::Doom { key } => {
                 let answer = self.handles.doom(alloc, disk, key);
                 self.faulting = has_failed(&answer);
-                self.index.learn_of(answer)
+                learn_of(&mut self.index, answer)
             }
             Command::Get { key } => self.say_shown(alloc, disk, Shown::Whole, key, sink),
             Command::GetAlt { key } => self.say_shown(alloc, disk, Shown::Alt, key, sink),
             Command::MainBody { key } => self.say_shown(alloc, disk, Shown::Main, key, sink),
-            Command::Has { key } => Ok(self.index.has(key)),
+            Command::Has { key } => Ok(has(&self.index, key)),
             Command::List => self.say_list(alloc, disk, sink),
             Command::Evict { kb } => self.evict(alloc, disk, kb, sink),
             Command::Clear { origin } => self.clear(alloc, disk, origin),
             Command::Resume => self.resume(alloc, disk),
             Command::Flush => self.flush(alloc, disk),
             Command::Step { n } => self.step(disk, n),
-            Command::State => Ok(self.index.state()),
+            Command::State => Ok(state_of(&self.index)),
             Command::Verify => self.verify(alloc, disk),
             Command::Rebuild => self.rebuild(alloc, disk),
             Command::Dump => self.dump(alloc, disk, sink),

@@ -22,16 +22,16 @@ ghost use Rattle.disk_theory.specs.Told.{Told};
 ghost use Rattle.entry_key.specs.Tags.{value_hash};
 ghost use Rattle.file_handles.specs.Cache.{cache};
 ghost use Rattle.file_handles.specs.Dooming.{LeavesMark, TakesInOrder};
-ghost use Rattle.file_handles.specs.HeldChunks.{SameChunks};
+ghost use Rattle.handle_table.specs.HeldChunks.{SameChunks};
 ghost use Rattle.file_handles.specs.Kept.{kept};
 ghost use Rattle.index_map.specs.Known.{SameBase};
 ghost use Rattle.index_theory.specs.Leaves.{LeavesBeside, LeavesIndex};
 
 use crate::StoreFault;
-use crate::answered::Answered;
 use crate::look_faults::look_fault;
 use crate::store::Store;
 use cache_base::{Name, Names, NoMemory, SLOTS, has_name, listed, name_set};
+use cache_replies::Answered;
 use context_clear::{covers, end as end_clearing, store as store_mark};
 use disk_theory::{Disk, DiskFault};
 use entry_key::hash_of_origin;

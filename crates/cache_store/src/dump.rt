@@ -11,10 +11,10 @@ ghost use Rattle.cache_store.specs.Dumping.{TakesTurn, item_length, item_with, i
 ghost use Rattle.cache_store.specs.Faulting.{SendsFrontFor};
 ghost use Rattle.cache_store.specs.Faults.{AccountsForSink, ending};
 ghost use Rattle.cache_store.specs.Prefix.{ForPrefix};
-ghost use Rattle.cache_store.specs.Said.{saying};
-ghost use Rattle.cache_store.specs.Saying.{SaysMore, StopsIn, TakesMore};
+ghost use Rattle.cache_replies.specs.Said.{saying};
+ghost use Rattle.cache_replies.specs.Saying.{SaysMore, StopsIn, TakesMore};
 ghost use Rattle.cache_theory.specs.Command.Command.{Dump};
-ghost use Rattle.cache_store.specs.Records.{EndsWith};
+ghost use Rattle.memory_index.specs.Records.{EndsWith};
 ghost use Rattle.index_theory.specs.Ever.{entries_on};
 ghost use Rattle.disk_theory.specs.Account.{Looks};
 ghost use Rattle.disk_theory.specs.State.{standing};
@@ -27,14 +27,13 @@ ghost use Rattle.file_handles.specs.Kept.{kept, last_read};
 ghost use Rattle.index_map.specs.Known.{SameBase};
 
 use crate::StoreFault;
-use crate::answered::Answered;
 use crate::found_body::{Frame, Range, first_chunk, say_framed};
 use crate::look_faults::look_fault;
-use crate::pending::Pending;
 use crate::store::Store;
 use cache_base::{BODY_MAX, Name, Names, NoMemory};
 use cache_export::{DUMP_MAX, HEAD, item_back, item_front};
 use cache_io::{MemSink, Sink};
+use cache_replies::{Answered, Pending};
 use disk_theory::{Disk, Place};
 use entry_key::may_write;
 use entry_metadata::{Meta, block_len};
@@ -218,7 +217,7 @@ impl Store {
     ghost use Rattle.cache_store.specs.Performing.{DoesFor};
     ghost use Rattle.cache_store.specs.Session.{session};
     ghost use Rattle.file_handles.specs.Cache.{cache};
-    ghost use Rattle.file_handles.specs.HeldChunks.{SameChunks};
+    ghost use Rattle.handle_table.specs.HeldChunks.{SameChunks};
 
     /// Ends the update, and says all entries that may be dumped, in the order of their names. A look that fails is
     /// answered by `fault` only before the head is out.

@@ -5,19 +5,21 @@ ghost use Rattle.cache_base.specs.declared.limits.TheConstants.{SLOTS};
 ghost use Rattle.cache_store.specs.Answering.{SaysNothing};
 ghost use Rattle.cache_store.specs.Faults.{ending};
 ghost use Rattle.cache_store.specs.Performing.{HadEffect};
-ghost use Rattle.cache_store.specs.Printed.{IsPlainAnswer};
+ghost use Rattle.cache_replies.specs.Printed.{IsPlainAnswer};
 ghost use Rattle.cache_theory.specs.Command.Command.{FinishAs};
 ghost use Rattle.disk_theory.specs.Account.{OnlyChanges};
 ghost use Rattle.disk_theory.specs.Told.{Told};
-ghost use Rattle.file_handles.specs.HeldChunks.{SameChunks};
+ghost use Rattle.handle_table.specs.HeldChunks.{SameChunks};
 ghost use Rattle.file_handles.specs.Finishing.{finish_syncs};
-ghost use Rattle.file_handles.specs.Kept.{kept, object_in};
+ghost use Rattle.handle_table.specs.Kept.{object_in};
+ghost use Rattle.file_handles.specs.Kept.{kept};
 ghost use Rattle.index_map.specs.Known.{SameBase};
 ghost use Rattle.index_theory.specs.Leaves.{LeavesBeside};
 
 use crate::StoreFault;
-use crate::answered::Answered;
+use crate::learn::learn_of;
 use crate::store::Store;
+use cache_replies::Answered;
 use disk_theory::Disk;
 use entry_parts::{Elements, Header};
 use std::alloc::Global;
@@ -53,6 +55,6 @@ impl Store {
     {
         let elements = elements.copy(alloc)?;
         let answer = self.handles.finish_as(alloc, disk, slot, header, elements);
-        self.index.learn_of(answer)
+        learn_of(&mut self.index, answer)
     }
 }

@@ -4,8 +4,8 @@ ghost use Rattle.std.specs.Prelude.{◌≡◌, ◌≢◌, ◌<◌, ◌≤◌, �
 ghost use Rattle.cache_base.specs.Limits.{chunk_size, chunks as chunks_of};
 ghost use Rattle.cache_store.specs.Faults.{AccountsForSink, ending};
 ghost use Rattle.cache_store.specs.Prefix.{ForPrefix, HasChunkAt, range_of};
-ghost use Rattle.cache_store.specs.Said.{saying};
-ghost use Rattle.cache_store.specs.Saying.{CutsIn, SaysMore, SendsFront};
+ghost use Rattle.cache_replies.specs.Said.{saying};
+ghost use Rattle.cache_replies.specs.Saying.{CutsIn, SaysMore, SendsFront};
 ghost use Rattle.disk_theory.specs.Account.{Looks, ending as disk_ending};
 ghost use Rattle.disk_theory.specs.State.{standing};
 ghost use Rattle.entry_file.specs.Held.{IsLastOf};
@@ -14,10 +14,10 @@ ghost use Rattle.file_handles.specs.Reading.{part_of_body};
 
 use crate::StoreFault;
 use crate::look_faults::look_fault;
-use crate::pending::Pending;
 use crate::store::Store;
 use cache_base::CHUNK;
 use cache_io::Sink;
+use cache_replies::Pending;
 use disk_theory::{Disk, DiskFault, Place};
 use file_handles::Handles;
 

@@ -2,15 +2,16 @@
 
 ghost use Rattle.std.specs.Prelude.{◌≡◌, ◌↔◌, [], Err, false, true, IfOk, IsTrue, Ok, OnOk, length, take};
 ghost use Rattle.cache_store.specs.AtClear.{KeepsAtClear};
-ghost use Rattle.cache_store.specs.Answering.{HasOutcome, IsStillToSay, SaysNothing};
+ghost use Rattle.cache_replies.specs.Answers.{HasOutcome};
+ghost use Rattle.cache_store.specs.Answering.{IsStillToSay, SaysNothing};
 ghost use Rattle.cache_store.specs.Faults.{AccountsForSink, ending};
 ghost use Rattle.cache_store.specs.IndexCalls.{Flushes, IsFresh, IsWritten, ReadsEntriesOf, Rebuilds};
 ghost use Rattle.cache_store.specs.InUse.{SparesIndex};
 ghost use Rattle.cache_store.specs.Kept.{HoldsIndex};
-ghost use Rattle.cache_store.specs.Said.{saying};
-ghost use Rattle.cache_store.specs.Saying.{TakesMore};
+ghost use Rattle.cache_replies.specs.Said.{saying};
+ghost use Rattle.cache_replies.specs.Saying.{TakesMore};
 ghost use Rattle.cache_theory.specs.Command.Command.{Flush, ListRecords, Rebuild, StepUpdate};
-ghost use Rattle.cache_store.specs.Records.{EndsWith, StepsUpdate};
+ghost use Rattle.memory_index.specs.Records.{EndsWith, StepsUpdate};
 ghost use Rattle.cache_store.specs.Syncs.{writing_syncs};
 ghost use Rattle.index_theory.specs.Ever.{entries_on};
 ghost use Rattle.disk_theory.specs.Account.{Accounts, Ending, FailsInChange, Looks, OnlyChanges, ending as disk_ending, one_sync};
@@ -24,14 +25,14 @@ ghost use Rattle.startup_read.specs.Refreshing.{Refreshes};
 ghost use Rattle.startup_read.specs.Spares.{SparesEntries};
 
 use crate::StoreFault;
-use crate::answered::Answered;
-use crate::listing::say_listing;
+use crate::index_answers::state_of;
 use crate::look_faults::look_fault;
-use crate::memory_index::{MemoryIndex, scan};
 use crate::store::Store;
 use cache_base::Moment;
 use cache_io::Sink;
+use cache_replies::{Answered, say_listing};
 use disk_theory::{Disk, DiskFault};
+use memory_index::{MemoryIndex, scan};
 use startup_read::{refresh_index, write_index};
 use std::alloc::Global;
 
@@ -70,7 +71,7 @@ impl Store {
     ghost use Rattle.cache_store.specs.Open.{IsOpen};
     ghost use Rattle.cache_store.specs.Faulting.{StaysAs};
     ghost use Rattle.cache_store.specs.Performing.{AchievesFor, DoesWhatIsDone};
-    ghost use Rattle.file_handles.specs.HeldChunks.{SameChunks};
+    ghost use Rattle.handle_table.specs.HeldChunks.{SameChunks};
     ghost use Rattle.file_handles.specs.Kept.{kept};
     ghost use Rattle.cache_store.specs.Session.{open_of, session};
 
@@ -133,7 +134,7 @@ impl Store {
             StepsUpdate n es self.old.index self.new.index) }
     {
         match self.index.step(disk, n) {
-            Ok(()) => Ok(self.index.state()),
+            Ok(()) => Ok(state_of(&self.index)),
             Err(fault) => Err(look_fault(fault, &mut self.faulting)),
         }
     }

@@ -1,8 +1,7 @@
-//! When an index is written, by which records an eviction and a check go, and what a clearing leaves.
+//! When an index is written, and what a clearing leaves.
 
 ghost use Rattle.cache_store.specs.Clearing.{ClearingLeavesNone};
 ghost use Rattle.cache_store.specs.InUse.{FewAreSpared, FewStayInUse};
-ghost use Rattle.cache_store.specs.Records.{AtEndIsOne};
 ghost use Rattle.cache_store.specs.StoppedClearing.{ResumedClearingIsNoneOrAll, StoppedClearingIsNoneOrAll};
 
 /// Where few records differ from those of the index that stands, a `flush` does not write it, and a closing leaves it
@@ -10,11 +9,6 @@ ghost use Rattle.cache_store.specs.StoppedClearing.{ResumedClearingIsNoneOrAll, 
 pub fn few_leave_index()
     ensures spared { FewAreSpared }
     ensures in_use { FewStayInUse }
-{}
-
-/// What is in memory and what stands decide by which records an eviction and a check go.
-pub fn records_at_end_are_one()
-    ensures { AtEndIsOne }
 {}
 
 /// Once a clearing of an origin is answered, no crash leaves a version of it that is not pinned, where the records in

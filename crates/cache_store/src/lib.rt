@@ -2,7 +2,6 @@
 //! reply, and is closed.
 #![tactic(auto)]
 
-mod answered;
 mod attempt;
 mod clear;
 mod command;
@@ -11,26 +10,24 @@ mod evict;
 mod fault;
 mod finishing;
 mod found_body;
+mod handle_answers;
+mod index_answers;
 mod index_commands;
 mod kilobytes;
 mod laws;
 mod learn;
-mod listing;
 mod look_faults;
-mod memory_index;
 mod opening;
 mod outcome;
-mod pending;
 mod read;
-mod replies;
 mod resume;
 mod shown;
 mod store;
 mod verify;
 
+pub use cache_replies::Verdict;
 pub use fault::StoreFault;
-pub use laws::{
-    clearing_leaves_none, few_leave_index, records_at_end_are_one, stopped_clearing_is_none_or_all,
-};
-pub use outcome::{Outcome, Verdict};
+pub use laws::{clearing_leaves_none, few_leave_index, stopped_clearing_is_none_or_all};
+pub use memory_index::records_at_end_are_one;
+pub use outcome::Outcome;
 pub use store::Store;

@@ -5,7 +5,7 @@ ghost use Rattle.cache_base.specs.Names.{AreSorted};
 ghost use Rattle.cache_store.specs.InUse.{OpensInUse};
 ghost use Rattle.cache_store.specs.Kept.{HoldsIndex};
 ghost use Rattle.cache_store.specs.Open.{BeginsOn, IsRest};
-ghost use Rattle.cache_store.specs.Records.{SeesNone, TellsOf};
+ghost use Rattle.memory_index.specs.Records.{SeesNone, TellsOf};
 ghost use Rattle.disk_theory.specs.Account.{LeavesEntriesUnread, Looks, LooksAtNoEntry, ending, one_sync};
 ghost use Rattle.disk_theory.specs.Listing.{AreEntries};
 ghost use Rattle.disk_theory.specs.State.{standing};
@@ -17,10 +17,10 @@ ghost use Rattle.index_theory.specs.Honest.{Honest};
 ghost use Rattle.startup_read.specs.Opening.{IsAmidOpening, OpensHonest, opened as opened_index};
 ghost use Rattle.startup_read.specs.Spares.{SparesEntries};
 
-use crate::memory_index::MemoryIndex;
 use disk_theory::{Disk, DiskFault};
 use index_map::RecordMap;
 use index_update::Update;
+use memory_index::MemoryIndex;
 use startup_read::{Opened, Start, open_index};
 use std::alloc::Global;
 

@@ -2,28 +2,27 @@
 
 ghost use Rattle.std.specs.Prelude.{◌≡◌, ◌≢◌, ◌<◌, ◌≤◌, ◌+◌, ◌++◌, ◌^◌, [], Err, false, true, IfErr, IfOk, IsSome, IsTrue, OnErr, OnOk, codes, drop, length, take};
 ghost use Rattle.cache_base.specs.declared.limits.TheConstants.{SLOTS};
-ghost use Rattle.cache_store.specs.Answering.{outcome_in};
+ghost use Rattle.cache_replies.specs.Answers.{outcome_in};
 ghost use Rattle.cache_store.specs.Faulting.{SendsFrontFor, is_refusal};
 ghost use Rattle.cache_store.specs.Faults.{AccountsForSink, ending};
 ghost use Rattle.cache_store.specs.Reads.{AreHeld, LastIsFirst};
-ghost use Rattle.cache_store.specs.Said.{saying};
-ghost use Rattle.cache_store.specs.Saying.{CutsIn, SaysMore, SaysPart, SendsFront, StopsIn};
+ghost use Rattle.cache_replies.specs.Said.{saying};
+ghost use Rattle.cache_replies.specs.Saying.{CutsIn, SaysMore, SaysPart, SendsFront, StopsIn};
 ghost use Rattle.cache_theory.specs.Command.Command.{ReadPart};
 ghost use Rattle.cache_theory.specs.Text.{with_bytes, with_number};
 ghost use Rattle.disk_theory.specs.Account.{Looks};
 ghost use Rattle.file_handles.specs.Answers.{ending as handle_ending};
 ghost use Rattle.file_handles.specs.Cache.{cache};
-ghost use Rattle.file_handles.specs.Kept.{kept, object_in};
+ghost use Rattle.handle_table.specs.Kept.{object_in};
+ghost use Rattle.file_handles.specs.Kept.{kept};
 ghost use Rattle.file_handles.specs.Reading.{ForBody, HasRead, HasReadOrNot, HoldsAsBefore, IsPartHeld, SameButChunks, part_of_body};
 ghost use Rattle.file_handles.specs.Stands.{RepresentsSome};
 
-use crate::answered::Answered;
+use crate::StoreFault;
 use crate::look_faults::{handles_fault, is_failed};
-use crate::pending::Pending;
-use crate::replies::counted;
 use crate::store::Store;
-use crate::{StoreFault, Verdict};
 use cache_io::Sink;
+use cache_replies::{Answered, Pending, Verdict, counted};
 use disk_theory::Disk;
 use file_handles::{HandleFault, Handles};
 use std::alloc::Global;

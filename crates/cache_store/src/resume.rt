@@ -16,14 +16,14 @@ ghost use Rattle.disk_theory.specs.Sound.{IsQuiet};
 ghost use Rattle.disk_theory.specs.State.{standing};
 ghost use Rattle.disk_theory.specs.Told.{Told};
 ghost use Rattle.disk_theory.specs.declared.place.Place.TheVariants.{Clear};
-ghost use Rattle.file_handles.specs.HeldChunks.{SameChunks};
+ghost use Rattle.handle_table.specs.HeldChunks.{SameChunks};
 ghost use Rattle.file_handles.specs.Kept.{kept};
 ghost use Rattle.index_map.specs.Known.{SameBase};
 ghost use Rattle.index_theory.specs.Leaves.{LeavesIndex};
 
 use crate::StoreFault;
-use crate::answered::Answered;
 use crate::store::Store;
+use cache_replies::Answered;
 use context_clear::{end as end_clearing, stored};
 use disk_theory::{Disk, Place};
 use std::alloc::Global;

@@ -1,101 +1,23 @@
 //! Replies that show something of an entry that is found: all of it, its main body, or its alternative data.
 
-ghost use Rattle.std.specs.Prelude.{◌≡◌, ◌≤◌, [], Err, false, true, option_map, IfOk, IfSome, IsTrue};
+ghost use Rattle.std.specs.Prelude.{◌≡◌, [], Err, false, true, IsTrue};
 ghost use Rattle.cache_store.specs.Faulting.{SendsFrontFor};
 ghost use Rattle.cache_store.specs.Faults.{AccountsForSink, ending};
-ghost use Rattle.cache_store.specs.Said.{saying};
-ghost use Rattle.cache_store.specs.Showing.{alt_shown, main_length, main_shown, part_said, part_shown, showing};
+ghost use Rattle.cache_replies.specs.Said.{saying};
+ghost use Rattle.cache_replies.specs.Showing.{showing};
 ghost use Rattle.disk_theory.specs.Account.{Looks};
-ghost use Rattle.entry_metadata.specs.Meta.{meta_of};
 
 use crate::StoreFault;
-use crate::answered::{Answered, fault_answer};
 use crate::found_body::Range;
+use crate::handle_answers::fault_answer;
 use crate::look_faults::is_failed;
-use crate::replies::{alt_head, counted, entry_head};
 use crate::store::Store;
-use alt_data::info;
-use cache_base::{Bytes, NoMemory};
 use cache_io::Sink;
+use cache_replies::{Answered, Shown, part_of};
 use cache_theory::Refusal;
 use disk_theory::{Disk, Place};
-use entry_metadata::Meta;
 use entry_name::name_of;
 use std::alloc::Global;
-
-/// What is shown of an entry.
-#[derive(Clone, Copy)]
-pub(crate) enum Shown {
-    /// Its numbers, its elements and its whole body.
-    Whole,
-    /// Its main body.
-    Main,
-    /// Its alternative data.
-    Alt,
-}
-
-// What is said of an entry before bytes of its body, and which bytes these are.
-#[derive(Drop)]
-struct Part {
-    head: Bytes,
-    from: u32,
-    to: u32,
-}
-
-// Which bytes of its body are the main one.
-fn main_len(meta: &Meta) -> u32
-    ensures len { result ≡ main_length (meta_of meta.now) }
-    ensures inside { result ≤ meta.now.offset }
-{
-    match info(&meta.elements, meta.offset) {
-        Some(alt) => alt.offset,
-        None => meta.offset,
-    }
-}
-
-// The part with the main body.
-fn main_part(alloc: Global, meta: &Meta) -> Result<Part, NoMemory>
-    ensures { IfOk result (λ part. part_said part ≡ main_shown (meta_of meta.now)) }
-{
-    let to = main_len(meta);
-    let head = counted(alloc, b"main", u64::from(to))?;
-    Ok(Part { head, from: 0, to })
-}
-
-// The part with the alternative data, if there are any.
-fn alt_part(alloc: Global, meta: &Meta) -> Result<Option<Part>, NoMemory>
-    ensures { IfOk result (λ part. option_map part_said part ≡ alt_shown (meta_of meta.now)) }
-{
-    let Some(alt) = info(&meta.elements, meta.offset) else {
-        return Ok(None);
-    };
-    let len = meta.offset - alt.offset;
-    let head = alt_head(alloc, alt.kind, u64::from(len))?;
-    Ok(Some(Part {
-        head,
-        from: alt.offset,
-        to: meta.offset,
-    }))
-}
-
-// The part that is shown of an entry, if it has that.
-fn part_of(alloc: Global, shown: Shown, meta: &Meta) -> Result<Option<Part>, NoMemory>
-    ensures part { IfOk result (λ part.
-        option_map part_said part ≡ part_shown shown (meta_of meta.now)) }
-{
-    match shown {
-        Shown::Whole => {
-            let head = entry_head(alloc, meta)?;
-            Ok(Some(Part {
-                head,
-                from: 0,
-                to: meta.offset,
-            }))
-        }
-        Shown::Main => Ok(Some(main_part(alloc, meta)?)),
-        Shown::Alt => alt_part(alloc, meta),
-    }
-}
 
 impl Store {
     ghost use Rattle.cache_store.specs.Answering.{AnswersFor, IsStillToSay};

@@ -10,13 +10,13 @@ ghost use Rattle.index_theory.specs.AtClear.{KeepsClear};
 ghost use Rattle.index_theory.specs.Leaves.{LeavesIndex};
 
 use crate::StoreFault;
-use crate::memory_index::MemoryIndex;
 use crate::opening::begin_index;
-use crate::pending::Pending;
 use cache_base::Moment;
+use cache_replies::Pending;
 use disk_theory::Disk;
 use doom_area::clear;
 use file_handles::Handles;
+use memory_index::MemoryIndex;
 use startup_read::close_index;
 use std::alloc::Global;
 

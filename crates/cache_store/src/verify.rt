@@ -1,48 +1,25 @@
 //! Checks all entries, and holds them against their records.
 
 ghost use Rattle.std.specs.Prelude.{◌≡◌, ◌↔◌, [], Err, IfOk, IsTrue, Ok, OnErr, OnOk, false, true};
-ghost use Rattle.cache_store.specs.Answering.{SaysNothing, outcome_of};
+ghost use Rattle.cache_store.specs.Answering.{SaysNothing};
+ghost use Rattle.cache_replies.specs.Answers.{outcome_of};
 ghost use Rattle.cache_store.specs.Faults.{OnlySinkFails, ending};
-ghost use Rattle.cache_store.specs.Said.{saying};
-ghost use Rattle.cache_store.specs.Saying.{CutsIn, SaysMore};
+ghost use Rattle.cache_replies.specs.Said.{saying};
+ghost use Rattle.cache_replies.specs.Saying.{CutsIn, SaysMore};
 ghost use Rattle.cache_theory.specs.Command.Reply.{Findings};
 ghost use Rattle.cache_theory.specs.Text.{findings_text};
-ghost use Rattle.cache_store.specs.Records.{EndsWith};
+ghost use Rattle.memory_index.specs.Records.{EndsWith};
 ghost use Rattle.index_theory.specs.Ever.{entries_on};
 ghost use Rattle.disk_theory.specs.Account.{Looks};
 ghost use Rattle.index_map.specs.Known.{SameBase};
 
-use crate::answered::Answered;
-use crate::listing::say_listing;
+use crate::StoreFault;
 use crate::look_faults::look_fault;
-use crate::pending::Pending;
 use crate::store::Store;
-use crate::{StoreFault, Verdict};
-use cache_check::{Finding, findings};
-use cache_io::Sink;
+use cache_check::findings;
+use cache_replies::Answered;
 use disk_theory::Disk;
 use std::alloc::Global;
-
-/// Says what was found, and tells whether that is anything.
-pub(crate) fn say_found<K: Sink>(
-    alloc: Global,
-    found: &[Finding],
-    reply: &mut Pending,
-    sink: &mut K,
-) -> Result<Verdict, StoreFault>
-    ensures says { let at = saying K.Sink in OnOk result
-        (SaysMore (at reply.old sink.old) (at reply.new sink.new) (findings_text found.now)) }
-    ensures cut { let at = saying K.Sink in
-        OnErr result (CutsIn (at reply.old sink.old) (K.taken sink.new) (findings_text found.now)) }
-    ensures outcome { IfOk result (λ o. o ≡ outcome_of (Findings found.now)) }
-    ensures sink { OnlySinkFails K.Sink result sink.old sink.new }
-{
-    say_listing(alloc, b"findings", found, reply, sink)?;
-    match found {
-        [] => Ok(Verdict::Ok),
-        [_, ..] => Ok(Verdict::Refused),
-    }
-}
 
 impl Store {
     ghost use Rattle.cache_store.specs.Faulting.{StaysAs};
@@ -51,7 +28,7 @@ impl Store {
     ghost use Rattle.cache_store.specs.Session.{session};
     ghost use Rattle.cache_store.specs.Verifying.{IsFoundIn};
     ghost use Rattle.cache_theory.specs.Command.Command.{Verify};
-    ghost use Rattle.file_handles.specs.HeldChunks.{SameChunks};
+    ghost use Rattle.handle_table.specs.HeldChunks.{SameChunks};
     ghost use Rattle.file_handles.specs.Kept.{kept};
 
     /// Ends the update, and finds what is wrong with the files of all entries and with their records. Entries that are

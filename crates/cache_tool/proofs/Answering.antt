@@ -7,12 +7,12 @@ use Rattle.cache_store.specs.Faulting.{FailsForGood, StaysAs}
 use Rattle.cache_store.specs.Faults.{ending, fault_ending}
 use Rattle.cache_store.specs.Outcomes.{Faults, verdict_in}
 use Rattle.cache_store.specs.Performing.{PerformsFor}
-use Rattle.cache_store.specs.Said.{IsCut}
+use Rattle.cache_replies.specs.Said.{IsCut}
 use Rattle.cache_store.specs.Session.{cache_of, session}
 use Rattle.cache_store.specs.declared.outcome.Outcome.{Outcome}
 use Rattle.cache_store.specs.declared.fault.StoreFault.{StoreFault}
 use Rattle.cache_store.specs.declared.fault.StoreFault.TheVariants as fault
-use Rattle.cache_store.specs.declared.outcome.Verdict.{Verdict}
+use Rattle.cache_replies.specs.declared.verdict.Verdict.{Verdict}
 use Rattle.cache_store.specs.declared.store.Store.{Store}
 use Rattle.cache_theory.specs.Command.{Command}
 use Rattle.cache_theory.specs.Command.Command.{Resume}

@@ -13,9 +13,9 @@ use Rattle.cache_store.specs.Open.{OpensInOrder}
 use Rattle.cache_store.specs.Performing.{HadEffect}
 use Rattle.cache_store.specs.Session.{open_of}
 use Rattle.cache_store.specs.declared.fault.StoreFault.{StoreFault}
-use Rattle.cache_store.specs.declared.outcome.Verdict.{Verdict}
+use Rattle.cache_replies.specs.declared.verdict.Verdict.{Verdict}
 use Rattle.cache_store.specs.declared.store.Store.{Store}
-use Rattle.cache_store.specs.declared.memory_index.MemoryIndex.{MemoryIndex}
+use Rattle.memory_index.specs.declared.memory_index.MemoryIndex.{MemoryIndex}
 use Rattle.cache_store.proofs.Records.SparedIndex.{not_due_fresh}
 use Rattle.cache_store.proofs.Sessions.ClosedInUse.{refreshed_sound}
 use Rattle.cache_theory.specs.Command.{Command}

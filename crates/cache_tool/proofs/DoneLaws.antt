@@ -5,13 +5,13 @@ use Rattle.std.specs.Prelude.{◌||◌}
 use Rattle.std.proofs.lemmas.Bool.{or_left, or_right}
 use Rattle.cache_store.specs.Clearing.{LeavesResumed}
 use Rattle.cache_store.specs.DoneFor.{AreOfShelf, IsDoneBy, IsDoneFor, IsOfShelf, IsResumedBy}
-use Rattle.cache_store.specs.Evicting.{AreOthers}
+use Rattle.memory_index.specs.Forgetting.{AreOthers}
 use Rattle.cache_store.specs.Open.{BeginsOn, Represents, Tells}
 use Rattle.cache_store.specs.Performing.{GoesBy, SaysThere, goes_by_records}
-use Rattle.cache_store.specs.Records.{AreAtEnd}
+use Rattle.memory_index.specs.Records.{AreAtEnd}
 use Rattle.cache_store.specs.Session.{Session}
-use Rattle.cache_store.specs.declared.memory_index.MemoryIndex.{MemoryIndex}
-use Rattle.cache_store.proofs.Records.RecordsAtEnd.{at_end_is_one}
+use Rattle.memory_index.specs.declared.memory_index.MemoryIndex.{MemoryIndex}
+use Rattle.memory_index.proofs.RecordsAtEnd.{at_end_is_one}
 use Rattle.cache_theory.specs.Command.{Command}
 use Rattle.cache_theory.specs.Command.Command.{ClearNames, ClearOrigin, Evict, EvictNames, HasEntry, HasGiven, ListGiven, ListRecords, Resume, ResumeNames, Verify, VerifyRecords}
 use Rattle.cache_theory.specs.Checks.{checks}

@@ -12,7 +12,7 @@ use Rattle.cache_store.specs.Open.{IsOpen}
 use Rattle.cache_store.specs.Session.{Session, cache_of}
 use Rattle.cache_store.specs.declared.fault.StoreFault.{StoreFault}
 use Rattle.cache_store.specs.declared.fault.StoreFault.TheVariants as fault
-use Rattle.cache_store.specs.declared.outcome.Verdict.{Verdict}
+use Rattle.cache_replies.specs.declared.verdict.Verdict.{Verdict}
 use Rattle.cache_theory.specs.Command.{Command}
 use Rattle.cache_theory.specs.Command.Command.{ClearOrigin, Evict, HasEntry, ListRecords, Resume, Verify}
 use Rattle.cache_theory.specs.Machine.{Machine}

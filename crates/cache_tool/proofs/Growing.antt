@@ -2,8 +2,8 @@
 use Rattle.std.proofs.Common.{List, [], ◌++◌, Option, ℕ, take}
 use Rattle.std.specs.Io.KnownBytes.{Appends}
 use Rattle.std.proofs.KnownBytes.{Appends-nil, Appends-trans}
-use Rattle.cache_store.specs.Said.{IsCut}
-use Rattle.cache_store.specs.Saying.{IsPart, TakesMore}
+use Rattle.cache_replies.specs.Said.{IsCut}
+use Rattle.cache_replies.specs.Saying.{IsPart, TakesMore}
 
 pub takes_none : (now : Option (List ℕ)) → TakesMore now now
 takes_none now = ([], Appends-nil now)

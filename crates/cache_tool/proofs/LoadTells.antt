@@ -2,7 +2,7 @@
 use Rattle.std.proofs.Common.{◌≡◌, inl, inr, List, ℕ, None, subst}
 use Rattle.cache_export.specs.Dump.{IsDump}
 use Rattle.cache_export.proofs.FieldLaws.{dumps_are_one}
-use Rattle.cache_store.specs.Saying.{IsPart}
+use Rattle.cache_replies.specs.Saying.{IsPart}
 use Rattle.cache_tool.specs.Load.{BeginsLoaded, IsLoadLine, Loaded, loaded_line}
 use Rattle.cache_tool.specs.Load.IsLoadLine.{TellsBad, TellsDump}
 use Rattle.cache_tool.specs.LoadTells.{LoadTellsTrue}

@@ -9,7 +9,7 @@ use Rattle.cache_store.specs.Open.{BeginsOn, Opens, OpensHonestly, StartsOn, Tel
 use Rattle.cache_store.specs.Performing.{GoesBy, PerformsFor}
 use Rattle.cache_store.specs.Session.{Session}
 use Rattle.cache_store.specs.declared.fault.StoreFault.{StoreFault}
-use Rattle.cache_store.specs.declared.outcome.Verdict.{Verdict}
+use Rattle.cache_replies.specs.declared.verdict.Verdict.{Verdict}
 use Rattle.cache_store.proofs.Performing.Represented.{represents}
 use Rattle.cache_store.proofs.Sessions.Opened.{starts_on}
 use Rattle.cache_theory.specs.Command.{Command}

@@ -3,7 +3,7 @@ use Rattle.std.specs.Prelude.{List, None, Option, [], ℕ, ◌∷◌, ◌≡◌,
 use Rattle.cache_base.specs.declared.name.Name.{Name}
 use Rattle.cache_store.specs.Clearing.{LeavesResumed}
 use Rattle.cache_store.specs.DoneFor.{AreOfShelf, DoneBy, IsOfShelf, IsResumedBy}
-use Rattle.cache_store.specs.Evicting.{AreOthers}
+use Rattle.memory_index.specs.Forgetting.{AreOthers}
 use Rattle.cache_store.specs.InUse.{OpensInUse}
 use Rattle.cache_store.specs.Open.{BeginsOn, Opens, OpensHonestly, StartsOn}
 use Rattle.cache_store.specs.Performing.{GoesBy}

@@ -4,7 +4,7 @@ use Rattle.std.specs.Prelude.{List, None, Option, Some, false, suc, true, â„•, â
 use Rattle.cache_base.specs.declared.limits.TheConstants.{BODY_MAX, PIECE_MAX}
 use Rattle.cache_base.specs.declared.status.Status.{Status}
 use Rattle.cache_base.specs.declared.status.Status.TheVariants as status
-use Rattle.cache_store.specs.Printed.{PrintsNo, PrintsOk, PrintsRefusal, is_plain}
+use Rattle.cache_replies.specs.Printed.{PrintsNo, PrintsOk, PrintsRefusal, is_plain}
 use Rattle.cache_theory.specs.Command.{Command}
 use Rattle.cache_tool.specs.AnyDisk.{TakesAtMost}
 use Rattle.cache_tool.specs.Filled.{FillsCache}

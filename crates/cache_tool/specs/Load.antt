@@ -8,8 +8,8 @@ use Rattle.cache_export.specs.Joined.{parts_of}
 use Rattle.cache_export.specs.Parts.{NoPart, Part, Spells, Stage, after as due_after}
 use Rattle.cache_export.specs.declared.limits.TheConstants.{DUMP_MAX}
 use Rattle.cache_store.specs.Open.{StartsOn}
-use Rattle.cache_store.specs.Said.{IsCut}
-use Rattle.cache_store.specs.Saying.{IsPart}
+use Rattle.cache_replies.specs.Said.{IsCut}
+use Rattle.cache_replies.specs.Saying.{IsPart}
 use Rattle.cache_store.specs.Syncs.{all_syncs}
 use Rattle.cache_theory.specs.Command.{Command}
 use Rattle.cache_theory.specs.Loading.{FindsStock, IsStocked, item_begun, items_written}

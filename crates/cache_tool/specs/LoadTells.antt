@@ -4,7 +4,7 @@ use Rattle.std.specs.Prelude.{List, None, Option, length, ℕ, ◌≡◌, ◌⊎
 use Rattle.cache_base.specs.declared.status.Status.{Status}
 use Rattle.cache_base.specs.declared.status.Status.TheVariants as status
 use Rattle.cache_export.specs.Dump.{IsDump}
-use Rattle.cache_store.specs.Saying.{IsPart}
+use Rattle.cache_replies.specs.Saying.{IsPart}
 use Rattle.cache_tool.specs.Load.{BeginsLoaded, Loaded, PrintsLoadLine, loaded_line}
 use Rattle.entry_file.specs.Version.{Version}
 

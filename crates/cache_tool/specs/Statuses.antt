@@ -2,8 +2,8 @@
 use Rattle.std.specs.Prelude.{Err, Ok, Result, ⊤, ◌≡◌, ◌⊎◌}
 use Rattle.cache_base.specs.declared.status.Status.{Status}
 use Rattle.cache_base.specs.declared.status.Status.TheVariants as status
-use Rattle.cache_store.specs.declared.outcome.Verdict.{Verdict}
-use Rattle.cache_store.specs.declared.outcome.Verdict.TheVariants as outcome
+use Rattle.cache_replies.specs.declared.verdict.Verdict.{Verdict}
+use Rattle.cache_replies.specs.declared.verdict.Verdict.TheVariants as outcome
 use Rattle.cache_store.specs.declared.fault.StoreFault.{StoreFault}
 use Rattle.cache_store.specs.declared.fault.StoreFault.TheVariants as fault
 

@@ -4,12 +4,12 @@ use Rattle.std.specs.Prelude.{IfSome, IsSome, List, Option, Some, [], length, mi
 use Rattle.cache_base.specs.Causes.{Rose}
 use Rattle.cache_base.specs.declared.status.Status.{Status}
 use Rattle.cache_base.specs.declared.status.Status.TheVariants as status
-use Rattle.cache_store.specs.Answering.{outcome_of}
+use Rattle.cache_replies.specs.Answers.{outcome_of}
 use Rattle.cache_store.specs.Faulting.{SendsReplyFront}
 use Rattle.cache_store.specs.InUse.{HasShortJournal, StaysInUse}
 use Rattle.cache_store.specs.Open.{IsHonest, IsShut, StartsOn}
-use Rattle.cache_store.specs.Said.{IsCut}
-use Rattle.cache_store.specs.Saying.{IsPart}
+use Rattle.cache_replies.specs.Said.{IsCut}
+use Rattle.cache_replies.specs.Saying.{IsPart}
 use Rattle.cache_store.specs.Syncs.{all_syncs}
 use Rattle.cache_theory.specs.Command.{Command}
 use Rattle.cache_theory.specs.Command.Command.{ClearOrigin, Evict, Flush, ListRecords}

@@ -6,7 +6,7 @@ ghost use Rattle.std.specs.List.{range_with_len};
 ghost use Rattle.std.specs.Prelude.{◌≡◌, ◌≢◌, ◌≤◌, ◌<◌, ◌+◌, ◌++◌, ◌*◌, ◌%◌, ◌^◌, ◌⊎◌, [], ◌∷◌, codes, length, map, Err, IfOk, IsTrue, Ok, OnOk, ℕ};
 ghost use Rattle.cache_base.specs.Causes.{HasCause, Rose};
 ghost use Rattle.cache_store.specs.Open.{IsOpen};
-ghost use Rattle.cache_store.specs.Saying.{TakesMore};
+ghost use Rattle.cache_replies.specs.Saying.{TakesMore};
 ghost use Rattle.cache_store.specs.Session.{session};
 ghost use Rattle.cache_theory.specs.Text.{with_number};
 ghost use Rattle.cache_tool.specs.Fill.{body_of, entries_commands, entry_commands, half_of as half_of_kb, key_of, making_commands, next_number};

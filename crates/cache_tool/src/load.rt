@@ -7,7 +7,7 @@ ghost use Rattle.cache_base.specs.Causes.{HasCause, Rose};
 ghost use Rattle.cache_export.specs.Parts.{Part};
 ghost use Rattle.cache_export.specs.Reader.{used_in};
 ghost use Rattle.cache_store.specs.Open.{IsOpen};
-ghost use Rattle.cache_store.specs.Saying.{TakesMore};
+ghost use Rattle.cache_replies.specs.Saying.{TakesMore};
 ghost use Rattle.cache_store.specs.Session.{session};
 ghost use Rattle.cache_tool.specs.Load.{HasDump, HasNoDump, LoadsDump, bad_dump_line, loaded_line};
 ghost use Rattle.cache_tool.specs.LoadProgress.{EndsLoaded, IsLine, LoadsNext, PerformsLoad, finish_commands, loading, part_commands};

@@ -7,8 +7,8 @@ ghost use Rattle.std.specs.Prelude.{◌≡◌, ◌≢◌, ◌∷◌, ◌⊎◌, 
 ghost use Rattle.cache_base.specs.Causes.{Rose};
 ghost use Rattle.cache_script.specs.Command.{command_of};
 ghost use Rattle.cache_store.specs.IndexCalls.{ReadsEntriesOf};
-ghost use Rattle.cache_store.specs.Printed.{PrintsNo, PrintsOk, is_plain};
-ghost use Rattle.cache_store.specs.Saying.{TakesMore};
+ghost use Rattle.cache_replies.specs.Printed.{PrintsNo, PrintsOk, is_plain};
+ghost use Rattle.cache_replies.specs.Saying.{TakesMore};
 ghost use Rattle.cache_theory.specs.Given.{IsGiven};
 ghost use Rattle.cache_theory.specs.Text.{IsSpoken};
 ghost use Rattle.cache_tool.specs.MarkLeft.{LeavesMark};

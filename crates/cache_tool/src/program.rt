@@ -3,7 +3,7 @@
 ghost use Rattle.std.specs.Prelude.{◌≡◌, ◌↔◌, ◌⊎◌, IsTrue, IsSome, IsNone};
 ghost use Rattle.cache_base.specs.Causes.{Rose};
 ghost use Rattle.cache_store.specs.IndexCalls.{ReadsEntriesOf};
-ghost use Rattle.cache_store.specs.Saying.{TakesMore};
+ghost use Rattle.cache_replies.specs.Saying.{TakesMore};
 ghost use Rattle.cache_tool.specs.ByVerb.{IsStatusOf, IsWhole, Performs, PrintsBy, ReadsSource};
 ghost use Rattle.cache_tool.specs.MarkLeft.{LeavesMarkOf};
 ghost use Rattle.cache_tool.specs.RunAccount.{AccountsForRun};

@@ -1,39 +1,24 @@
 -- The handles at an opening.
-use Rattle.std.proofs.Common.{◌≡◌, ◌∙◌, inl, inr, ℕ, zero, suc, List, [], length, get_or, replicate, Option, Some, None, refl, sym, ap, subst, arith}
-use Rattle.std.specs.Prelude.{EachIndex, option_map, slice_get, slice_index_or, unwrap_or}
-use Rattle.std.proofs.lemmas.Bool.{cases_Bool, ltb-false, ltb-true}
-use Rattle.std.proofs.Common.{ltb}
+use Rattle.std.proofs.Common.{◌≡◌, ◌∙◌, ℕ, List, [], Option, Some, None, sym, ap, subst, arith}
+use Rattle.std.specs.Prelude.{option_map}
 use Rattle.std.specs.List.{All}
 use Rattle.std.proofs.lemmas.List.Elements.{All-nil}
-use Rattle.std.proofs.lemmas.Option.{slice_get_past, unwrap_or-slice_get}
 use Rattle.cache_theory.specs.Machine.{opened}
 use Rattle.cache_theory.specs.Proper.{OpensProper}
 use Rattle.cache_theory.specs.Stands.{IsHeldAside}
 use Rattle.cache_theory.specs.Table.{Table}
 use Rattle.cache_theory.proofs.ObjectLaws.Slots.{slot_of as slot_with}
 use Rattle.file_handles.specs.Carries.{StandsForOpening}
-use Rattle.file_handles.specs.HeldChunks.{IsChunkInUse}
-use Rattle.file_handles.specs.Kept.{Kept, object_at, use_at}
-use Rattle.file_handles.specs.Stands.{HandlesStand, IsAt, Stands}
-use Rattle.file_handles.specs.declared.object.Object.{Object}
-use Rattle.file_handles.specs.declared.object.Use.{Use}
+use Rattle.handle_table.specs.HeldChunks.{IsChunkInUse}
+use Rattle.handle_table.specs.Kept.{Kept, object_at, use_at}
+use Rattle.handle_table.specs.Standing.{HandlesStand}
+use Rattle.file_handles.specs.Stands.{IsAt, Stands}
+use Rattle.handle_table.specs.declared.object.Object.{Object}
+use Rattle.handle_table.specs.declared.object.Use.{Use}
 use Rattle.cache_theory.specs.Crash.{IsCrashKept, IsSafe}
 use Rattle.cache_theory.specs.Ever.{IsFiledOnce}
 use Rattle.cache_theory.specs.Marks.{marks_of}
 use Rattle.disk_theory.specs.State.{standing}
-
--- every element of a list of one value
-pub same_in : {X : Type 0} (n i : ℕ) (x : X) → get_or (replicate n x) i x ≡ x
-same_in zero i x = refl
-same_in (suc n) zero x = refl
-same_in (suc n) (suc i) x = same_in n i x
-
--- at any index of a list with none at its own
-pub none_at : {X : Type 0} (xs : List (Option X)) (i : ℕ) → EachIndex xs (λ i. slice_index_or xs i None ≡ None) → unwrap_or (slice_get xs i) None ≡ None
-none_at xs i each = elim (cases_Bool (ltb i (length xs))) [
-  | inl within ↦ unwrap_or-slice_get xs i None ∙ each i (ltb-true i (length xs) within)
-  | inr past ↦ ap (λ o. unwrap_or o None) (slice_get_past xs i (ltb-false i (length xs) past))
-]
 
 never_some : {X : Type 0} (P : Type 0) (x : X) → None ≡ Some x → P
 never_some P x e = absurd (cc)

@@ -7,7 +7,7 @@ use Rattle.cache_theory.specs.Marks.{Marks, begun, is_buried}
 use Rattle.cache_theory.proofs.Begins.{begin_keeps, begun_marked, begun_touched}
 use Rattle.disk_theory.specs.State.{State}
 use Rattle.file_handles.specs.Cache.{cache_at}
-use Rattle.file_handles.specs.Kept.{Kept}
+use Rattle.handle_table.specs.Kept.{Kept}
 use Rattle.file_handles.specs.Stands.{KeepsWhere}
 use Rattle.file_handles.proofs.Histories.{history_of}
 

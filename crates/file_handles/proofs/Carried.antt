@@ -18,13 +18,14 @@ use Rattle.file_handles.specs.Answers.{OnRefused, done_or}
 use Rattle.file_handles.specs.Cache.{cache_at}
 use Rattle.file_handles.specs.Carries.{CarriesOut, CarriesOutAt}
 use Rattle.file_handles.specs.Changes.{ChangesAt}
-use Rattle.file_handles.specs.Held.{IsHeldAs}
-use Rattle.file_handles.specs.Kept.{Kept, with_object}
-use Rattle.file_handles.specs.Refuses.{HasAt}
-use Rattle.file_handles.specs.Stands.{HandlesStand, KeepsWhere}
+use Rattle.handle_table.specs.Held.{IsHeldAs}
+use Rattle.handle_table.specs.Kept.{Kept, with_object}
+use Rattle.handle_table.specs.Refuses.{HasAt}
+use Rattle.handle_table.specs.Standing.{HandlesStand}
+use Rattle.file_handles.specs.Stands.{KeepsWhere}
 use Rattle.file_handles.specs.declared.fault.HandleFault.{HandleFault}
 use Rattle.file_handles.specs.declared.fault.HandleFault.TheVariants as fault
-use Rattle.file_handles.specs.declared.object.Object.{Object}
+use Rattle.handle_table.specs.declared.object.Object.{Object}
 use Rattle.file_handles.proofs.Begun.{begun_in}
 use Rattle.file_handles.proofs.Changed.{MayGoOut, changed_in_safe, changed_safe}
 use Rattle.file_handles.proofs.Setting.ElementSlots.{there_number}

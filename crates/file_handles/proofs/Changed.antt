@@ -31,11 +31,11 @@ use Rattle.entry_file.proofs.EntryLaws.{is_file_of}
 use Rattle.entry_name.specs.EntryName.{file_name}
 use Rattle.file_handles.specs.Cache.{cache_at}
 use Rattle.file_handles.specs.Changes.{Becomes, Changes, IsFiledAs, IsMomentOf}
-use Rattle.file_handles.specs.Held.{object_place, place_of}
-use Rattle.file_handles.specs.Kept.{Kept, object_at, with_object}
+use Rattle.handle_table.specs.Held.{object_place, place_of}
+use Rattle.handle_table.specs.Kept.{Kept, object_at, with_object}
 use Rattle.file_handles.specs.Stands.{IsAt, KeepsWhere}
 use Rattle.file_handles.specs.declared.fault.HandleFault.{HandleFault}
-use Rattle.file_handles.specs.declared.object.Object.{Object}
+use Rattle.handle_table.specs.declared.object.Object.{Object}
 use Rattle.file_handles.proofs.ChangedHandles.{IsChangedTo, handles_on, new_at, other_at, own_at, own_now, unburied_on, under_on, was_other}
 use Rattle.file_handles.proofs.Histories.{history_of}
 use Rattle.file_handles.proofs.Places.{aside_at, aside_is, file_stands, is_filed, published_place, published_there}

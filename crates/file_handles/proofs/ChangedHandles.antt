@@ -15,13 +15,14 @@ use Rattle.cache_theory.proofs.ObjectLaws.Users.{in_use_along}
 use Rattle.chunk_cache.specs.Cached.{CachedChunk}
 use Rattle.disk_theory.specs.State.{State}
 use Rattle.entry_name.specs.EntryName.{file_name}
-use Rattle.file_handles.specs.Held.{IsHeldAs}
-use Rattle.file_handles.specs.HeldChunks.{ChunksStand, HasNoneOf, IsChunkInUse, KeepsChunks}
-use Rattle.file_handles.specs.Kept.{Kept, object_at, with_object}
-use Rattle.file_handles.specs.Stands.{HandlesStand, IsAt, IsObjectOf}
-use Rattle.file_handles.specs.declared.object.Object.{Object}
+use Rattle.handle_table.specs.Held.{IsHeldAs}
+use Rattle.handle_table.specs.HeldChunks.{ChunksStand, HasNoneOf, IsChunkInUse, KeepsChunks}
+use Rattle.handle_table.specs.Kept.{Kept, object_at, with_object}
+use Rattle.handle_table.specs.Standing.{HandlesStand, IsObjectOf}
+use Rattle.file_handles.specs.Stands.{IsAt}
+use Rattle.handle_table.specs.declared.object.Object.{Object}
 use Rattle.file_handles.proofs.Reading.HeldChunkLaws.{chunk_on, keeps_own}
-use Rattle.file_handles.proofs.KeptLaws.{object_set_here, object_set_other, place_within}
+use Rattle.handle_table.proofs.KeptLaws.{object_set_here, object_set_other, place_within}
 
 -- the object x becomes y, which is the machine's object changed to o, where these chunks are held
 pub record IsChangedTo (held : List CachedChunk) (x y : Object) (was o : MachineObject) : Type 0 where

@@ -1,5 +1,4 @@
 pub mod ClosedAll
 pub mod ClosedSlot
-pub mod Released
 pub mod ReleasedFiles
 pub mod ReleasedSlot

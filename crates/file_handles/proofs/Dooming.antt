@@ -4,7 +4,6 @@ pub mod DoomedCarried
 pub mod DoomedChecks
 pub mod DoomedCommand
 pub mod DoomedKeeps
-pub mod DoomedNumbers
 pub mod DoomedStands
 pub mod DoomedUser
 pub mod Evicted
@@ -12,5 +11,4 @@ pub mod FirstFree
 pub mod GoneUnder
 pub mod LowNumbers
 pub mod MarkLeft
-pub mod SlotUsers
 pub mod Unmoved

@@ -25,22 +25,22 @@ use Rattle.index_theory.specs.Scan.{record_of}
 use Rattle.file_handles.specs.Changes.{completed}
 use Rattle.file_handles.specs.Closing.{is_some_draft}
 use Rattle.file_handles.specs.Effects.{HasEffect, HasEffectAt, IsLearntOf, file_len, learnt, learnt_at, learnt_of, learnt_of_held, learnt_under, name_of, object_name}
-use Rattle.file_handles.specs.Held.{IsHeldAs, elements_in, object_with}
-use Rattle.file_handles.specs.Kept.{Kept, object_at, use_at}
-use Rattle.file_handles.specs.Refuses.{HasAt}
-use Rattle.file_handles.specs.Stands.{HandlesStand}
+use Rattle.handle_table.specs.Held.{IsHeldAs, elements_in, object_with}
+use Rattle.handle_table.specs.Kept.{Kept, object_at, use_at}
+use Rattle.handle_table.specs.Refuses.{HasAt}
+use Rattle.handle_table.specs.Standing.{HandlesStand}
 use Rattle.file_handles.specs.declared.fault.Effect.{Effect}
 use Rattle.file_handles.specs.declared.fault.Effect.TheVariants as effect
-use Rattle.file_handles.specs.declared.object.Entry.{Entry}
-use Rattle.file_handles.specs.declared.object.Entry.TheVariants as entry
-use Rattle.file_handles.specs.declared.object.Object.{Object}
-use Rattle.file_handles.specs.declared.object.Use.{Use}
+use Rattle.handle_table.specs.declared.object.Entry.{Entry}
+use Rattle.handle_table.specs.declared.object.Entry.TheVariants as entry
+use Rattle.handle_table.specs.declared.object.Object.{Object}
+use Rattle.handle_table.specs.declared.object.Use.{Use}
 use Rattle.file_handles.proofs.Carried.{MakesChangeAt}
 use Rattle.file_handles.proofs.Closing.ClosedSlot.{close_step, finishes, has_slot, numbered, object_there}
 use Rattle.file_handles.proofs.Setting.ElementChecks.{if_object}
 use Rattle.file_handles.proofs.Setting.ElementReads.{there_elements}
 use Rattle.file_handles.proofs.Setting.ElementSlots.{there_held, there_number, there_object}
-use Rattle.file_handles.proofs.Closing.Released.{released_objects}
+use Rattle.handle_table.proofs.Released.{released_objects}
 
 -- The record of the file of a version.
 

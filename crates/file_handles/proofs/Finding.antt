@@ -1,10 +1,6 @@
-pub mod AskedNames
 pub mod Found
 pub mod FoundFile
 pub mod FoundLoad
 pub mod FoundNamed
 pub mod FoundShelf
 pub mod FoundUser
-pub mod OpenNames
-pub mod PassingNames
-pub mod User

@@ -18,12 +18,12 @@ use Rattle.file_handles.specs.Changes.{ChangesThere, IsFiledAt}
 use Rattle.file_handles.specs.Closing.{let_go_by, without_doomed}
 use Rattle.file_handles.specs.Creating.{MayHaveMade, MayHaveRemoved}
 use Rattle.file_handles.specs.Dooming.{SetsAside}
-use Rattle.file_handles.specs.Held.{object_place, place_of}
-use Rattle.file_handles.specs.Kept.{Kept, object_at}
+use Rattle.handle_table.specs.Held.{object_place, place_of}
+use Rattle.handle_table.specs.Kept.{Kept, object_at}
 use Rattle.file_handles.specs.Publishing.{CompletesThere, IsAmidPublishing, published_by}
 use Rattle.file_handles.specs.Publishing.IsAmidPublishing.{Published, Synced, Unsynced}
 use Rattle.file_handles.specs.declared.fault.HandleFault.{HandleFault}
-use Rattle.file_handles.specs.declared.object.Object.{Object}
+use Rattle.handle_table.specs.declared.object.Object.{Object}
 use Rattle.file_handles.proofs.Changed.{writes_weaker}
 use Rattle.file_handles.proofs.Dooming.DoomedUser.{least_free}
 use Rattle.file_handles.proofs.Finishing.IndexPublished.{published_leaves_beside}

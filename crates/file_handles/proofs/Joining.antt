@@ -1,8 +1,6 @@
 pub mod CreatedCommand
 pub mod CreatedIn
-pub mod Joined
 pub mod JoinedObject
 pub mod JoinedOpen
 pub mod JoinedReader
 pub mod JoinedSlots
-pub mod SeatLaws

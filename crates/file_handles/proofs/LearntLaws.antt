@@ -36,7 +36,7 @@ use Rattle.file_handles.specs.Effects.{LearntIsScanned, learnt_at, learnt_of, le
 use Rattle.file_handles.specs.declared.fault.Effect.{Effect}
 use Rattle.file_handles.specs.declared.fault.Effect.TheVariants as effects
 use Rattle.file_handles.proofs.EffectLaws.{and_false, and_true, at_finished, learnt_unfinished}
-use Rattle.file_handles.proofs.Closing.Released.{released_objects, released_shelf}
+use Rattle.handle_table.proofs.Released.{released_objects, released_shelf}
 
 -- What a scan says under each name of a table in which one name is removed, or has another content.
 

@@ -27,7 +27,7 @@ use Rattle.index_record.specs.Filling.{record_of_meta}
 use Rattle.file_handles.specs.Changes.{completed, with_version}
 use Rattle.file_handles.specs.Effects.{LearntLeavesRest, learnt, learnt_at, learnt_of, learnt_under, object_name, rest_once}
 use Rattle.file_handles.specs.declared.fault.Effect.TheVariants as effects
-use Rattle.file_handles.proofs.Closing.Released.{released_objects}
+use Rattle.handle_table.proofs.Released.{released_objects}
 
 -- The object that a command writes is finished afterwards.
 

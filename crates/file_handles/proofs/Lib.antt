@@ -12,7 +12,6 @@ pub mod Finishing
 pub mod Histories
 pub mod IndexLeft
 pub mod Joining
-pub mod KeptLaws
 pub mod LearntLaws
 pub mod LearntRest
 pub mod LiveUses

@@ -4,11 +4,11 @@ use Rattle.std.specs.Prelude.{is_some, option_and_then}
 use Rattle.cache_theory.specs.Command.{Command}
 use Rattle.cache_theory.specs.Machine.{Machine}
 use Rattle.cache_theory.specs.declared.refusal.Refusal.{Refusal}
-use Rattle.file_handles.specs.Kept.{Kept, if_there, live_use, object_at, object_in, use_at, used, writing}
-use Rattle.file_handles.specs.Refuses.{HasNoObject, Refuses}
-use Rattle.file_handles.specs.Stands.{HandlesStand}
-use Rattle.file_handles.specs.declared.object.Object.{Object}
-use Rattle.file_handles.specs.declared.object.Use.{Use}
+use Rattle.handle_table.specs.Kept.{Kept, if_there, live_use, object_at, object_in, use_at, used, writing}
+use Rattle.handle_table.specs.Refuses.{HasNoObject, Refuses}
+use Rattle.handle_table.specs.Standing.{HandlesStand}
+use Rattle.handle_table.specs.declared.object.Object.{Object}
+use Rattle.handle_table.specs.declared.object.Use.{Use}
 use Rattle.file_handles.proofs.Setting.ElementSlots.{no_use_found, use_found}
 use Rattle.file_handles.proofs.Finishing.Writers.{writer_found}
 

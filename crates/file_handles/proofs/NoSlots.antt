@@ -10,14 +10,15 @@ use Rattle.entry_file.specs.NewEntry.{grown_len}
 use Rattle.entry_parts.specs.Elements.{element}
 use Rattle.file_handles.specs.Answers.{OnRefused}
 use Rattle.file_handles.specs.Growing.{grow_fault}
-use Rattle.file_handles.specs.Kept.{Kept, live_use, object_in, used, writing}
+use Rattle.handle_table.specs.Kept.{Kept, live_use, object_in, used, writing}
 use Rattle.file_handles.specs.PuttingAlt.{are_small_with, put_fault, with_alt_at}
-use Rattle.file_handles.specs.Refuses.{ChecksNoSlot, TellsNoSlot}
+use Rattle.handle_table.specs.Refuses.{ChecksNoSlot}
+use Rattle.file_handles.specs.Refuses.{TellsNoSlot}
 use Rattle.file_handles.specs.declared.fault.HandleFault.{HandleFault}
 use Rattle.file_handles.specs.declared.fault.HandleFault.TheVariants as fault
-use Rattle.file_handles.specs.declared.object.Entry.{Entry}
-use Rattle.file_handles.specs.declared.object.Entry.TheVariants as entry
-use Rattle.file_handles.specs.declared.object.Use.{Use}
+use Rattle.handle_table.specs.declared.object.Entry.{Entry}
+use Rattle.handle_table.specs.declared.object.Entry.TheVariants as entry
+use Rattle.handle_table.specs.declared.object.Use.{Use}
 use Rattle.file_handles.proofs.LiveUses.{live_there, no_live}
 
 none_or_some : {X T : Type 0} (o : Option X) → o ≡ None → IsSome o → T

@@ -12,10 +12,11 @@ use Rattle.disk_theory.specs.declared.place.Place.TheVariants.{Doomed}
 use Rattle.entry_name.specs.EntryName.{file_name}
 use Rattle.file_handles.specs.Cache.{cache_at}
 use Rattle.file_handles.specs.Changes.{IsFiledAs, IsFiledAt}
-use Rattle.file_handles.specs.Held.{object_place, place_of}
-use Rattle.file_handles.specs.Kept.{Kept, object_at}
-use Rattle.file_handles.specs.Stands.{IsAt, IsObjectOf, RepresentsSome, Stands}
-use Rattle.file_handles.specs.declared.object.Object.{Object}
+use Rattle.handle_table.specs.Held.{object_place, place_of}
+use Rattle.handle_table.specs.Kept.{Kept, object_at}
+use Rattle.handle_table.specs.Standing.{IsObjectOf}
+use Rattle.file_handles.specs.Stands.{IsAt, RepresentsSome, Stands}
+use Rattle.handle_table.specs.declared.object.Object.{Object}
 
 module _ (s : State) (k : Kept) (m : Machine) (number : ℕ → ℕ) (stands : Stands (standing s) k m number) (p : ℕ) (x : Object) (at : object_at k p ≡ Some x) where
   is_object : IsObjectOf m (number p) x

@@ -10,12 +10,12 @@ use Rattle.disk_theory.specs.State.{State, standing}
 use Rattle.disk_theory.specs.Writes.{WritesAt}
 use Rattle.file_handles.specs.Cache.{cache_at}
 use Rattle.file_handles.specs.Changes.{Becomes, ChangesAt, IsFiledAs, IsMomentOf}
-use Rattle.file_handles.specs.Held.{object_place}
-use Rattle.file_handles.specs.Kept.{Kept, object_at, with_object}
+use Rattle.handle_table.specs.Held.{object_place}
+use Rattle.handle_table.specs.Kept.{Kept, object_at, with_object}
 use Rattle.file_handles.specs.Publishing.{BecomesWhole, CompletesAt, IsAmidPublishing, published_by}
 use Rattle.file_handles.specs.declared.fault.HandleFault.{HandleFault}
 use Rattle.file_handles.specs.declared.fault.HandleFault.TheVariants as fault
-use Rattle.file_handles.specs.declared.object.Object.{Object}
+use Rattle.handle_table.specs.declared.object.Object.{Object}
 
 -- it is put where it was taken
 pub put_back : (k mid after : Kept) (p : ℕ) (x : Option Object) → mid ≡ with_object k p None → after ≡ with_object mid p x → after ≡ with_object k p x

@@ -20,8 +20,8 @@ use Rattle.disk_theory.proofs.Files.{with_file-below}
 use Rattle.file_handles.specs.Answers.{done_or, done_or_none, reply_in}
 use Rattle.file_handles.specs.Cache.{cache_at}
 use Rattle.file_handles.specs.Carries.{CarriesOut}
-use Rattle.file_handles.specs.Kept.{Kept}
-use Rattle.file_handles.specs.Refuses.{Refuses}
+use Rattle.handle_table.specs.Kept.{Kept}
+use Rattle.handle_table.specs.Refuses.{Refuses}
 use Rattle.file_handles.specs.Stands.{KeepsWhere}
 use Rattle.file_handles.specs.declared.fault.HandleFault.{HandleFault}
 use Rattle.file_handles.specs.declared.fault.HandleFault.TheVariants as fault

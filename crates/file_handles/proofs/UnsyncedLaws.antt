@@ -18,12 +18,12 @@ use Rattle.file_handles.specs.Changes.{ChangesThere, IsFiledAt}
 use Rattle.file_handles.specs.Closing.{is_some_draft, let_go_by, without_doomed, writes_draft}
 use Rattle.file_handles.specs.Creating.{MayHaveMade, MayHaveRemoved}
 use Rattle.file_handles.specs.Dooming.{SetsAside}
-use Rattle.file_handles.specs.Held.{object_place}
-use Rattle.file_handles.specs.Kept.{Kept, object_at, use_at}
+use Rattle.handle_table.specs.Held.{object_place}
+use Rattle.handle_table.specs.Kept.{Kept, object_at, use_at}
 use Rattle.file_handles.specs.Unsynced.{SyncsNothing}
 use Rattle.file_handles.specs.declared.fault.HandleFault.{HandleFault}
-use Rattle.file_handles.specs.declared.object.Object.{Object}
-use Rattle.file_handles.specs.declared.object.Use.{Use}
+use Rattle.handle_table.specs.declared.object.Object.{Object}
+use Rattle.handle_table.specs.declared.object.Use.{Use}
 use Rattle.file_handles.proofs.Dooming.DoomedUser.{least_free}
 use Rattle.file_handles.proofs.IndexLeft.{named_file}
 

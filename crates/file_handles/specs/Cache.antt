@@ -1,7 +1,8 @@
 -- The handles, and the disk under them.
 use Rattle.disk_theory.specs.State.{State}
 use Rattle.disk_theory.specs.declared.disk.Disk.{Ghosts}
-use Rattle.file_handles.specs.Kept.{Kept, kept}
+use Rattle.handle_table.specs.Kept.{Kept}
+use Rattle.file_handles.specs.Kept.{kept}
 use Rattle.file_handles.specs.declared.handles.Handles.{Handles}
 
 -- what the handles keep, and the state of the disk under them

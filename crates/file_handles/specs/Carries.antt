@@ -12,7 +12,7 @@ use Rattle.cache_theory.specs.Table.{IsTable, Table, get}
 use Rattle.disk_theory.specs.State.{State, standing}
 use Rattle.disk_theory.specs.declared.place.Place.TheVariants.{Doomed}
 use Rattle.file_handles.specs.Cache.{Cache, cache_at}
-use Rattle.file_handles.specs.Kept.{Kept}
+use Rattle.handle_table.specs.Kept.{Kept}
 use Rattle.file_handles.specs.Stands.{KeepsTo, Represents}
 
 -- the answer to a command in a state of the machine: a reply is the machine's, and then its next

@@ -9,11 +9,11 @@ use Rattle.disk_theory.specs.Writes.{WritesAt}
 use Rattle.entry_file.specs.EntryFile.{fits}
 use Rattle.entry_file.specs.Version.{Version, file_of}
 use Rattle.file_handles.specs.Cache.{Cache}
-use Rattle.file_handles.specs.Held.{IsHeldAs, object_place}
-use Rattle.file_handles.specs.HeldChunks.{HasNoneOf, KeepsChunks}
-use Rattle.file_handles.specs.Kept.{object_at, with_object}
+use Rattle.handle_table.specs.Held.{IsHeldAs, object_place}
+use Rattle.handle_table.specs.HeldChunks.{HasNoneOf, KeepsChunks}
+use Rattle.handle_table.specs.Kept.{object_at, with_object}
 use Rattle.file_handles.specs.declared.fault.HandleFault.{HandleFault}
-use Rattle.file_handles.specs.declared.object.Object.{Object}
+use Rattle.handle_table.specs.declared.object.Object.{Object}
 
 -- a new moment of the file of an object that becomes `o`: it fits under no name, or is the file of
 -- the version of `o`

@@ -1,5 +1,4 @@
 -- When a slot is given up.
-use Rattle.std.specs.List.{list_any}
 use Rattle.std.specs.Option.{option_map_or}
 use Rattle.std.specs.Prelude.{Bool, IsSome, IsSomeAnd, List, None, OnOk, Option, Result, Some, false, if◌then◌else◌, is_some, option_map, unwrap_or, ℕ, ◌&&◌, ◌≡◌}
 use Rattle.cache_theory.specs.Command.Command.{Close}
@@ -15,18 +14,14 @@ use Rattle.disk_theory.specs.Image.{Files}
 use Rattle.disk_theory.specs.State.{State, removed, standing}
 use Rattle.disk_theory.specs.declared.disk.DiskFault.{DiskFault}
 use Rattle.disk_theory.specs.declared.place.Place.TheVariants.{Doomed}
+use Rattle.handle_table.specs.Leaving.{other_uses}
 use Rattle.file_handles.specs.Cache.{Cache}
-use Rattle.file_handles.specs.Held.{is_draft, object_place}
+use Rattle.handle_table.specs.Held.{is_draft, object_place}
 use Rattle.file_handles.specs.Finishing.{finish_syncs}
-use Rattle.file_handles.specs.Kept.{Kept, number_at, object_at, object_in, use_at, with_use}
-use Rattle.file_handles.specs.Seats.{is_use_of}
+use Rattle.handle_table.specs.Kept.{Kept, number_at, object_at, object_in, use_at}
 use Rattle.file_handles.specs.Stands.{KeepsTo, KeepsWhere, ReachesHistory, Represents}
 use Rattle.file_handles.specs.declared.fault.HandleFault.{HandleFault}
-use Rattle.file_handles.specs.declared.object.Object.{Object}
-
--- a slot but this one uses the place
-abbrev pub other_uses : Kept → ℕ → ℕ → Bool
-other_uses k slot place = list_any (is_use_of place) (with_use k slot None).slots
+use Rattle.handle_table.specs.declared.object.Object.{Object}
 
 -- a draft
 abbrev pub is_some_draft : Option Object → Bool

@@ -1,6 +1,6 @@
 -- How an object loses its name.
 use Rattle.std.specs.List.{AllByRecursion}
-use Rattle.std.specs.Prelude.{Bool, IfOk, IsSome, List, None, Ok, Option, Result, Some, [], filter_map, option_and_then, true, ℕ, ⊤, ◌++◌, ◌<◌, ◌∷◌, ◌≡◌, ◌⊎◌}
+use Rattle.std.specs.Prelude.{Bool, IfOk, IsSome, List, None, Ok, Option, Result, Some, [], true, ℕ, ⊤, ◌++◌, ◌<◌, ◌∷◌, ◌≡◌, ◌⊎◌}
 use Rattle.cache_base.specs.Checks.{first_failing}
 use Rattle.cache_base.specs.declared.limits.TheConstants.{SLOTS}
 use Rattle.cache_theory.specs.Checks.{checks}
@@ -19,19 +19,11 @@ use Rattle.disk_theory.specs.declared.place.NameStep.TheVariants.{Remove, Rename
 use Rattle.disk_theory.specs.declared.place.Place.TheVariants.{Clear, Doomed, Entry}
 use Rattle.doom_area.specs.DoomArea.{IsLeastFree}
 use Rattle.entry_name.specs.EntryName.{file_name}
+use Rattle.handle_table.specs.Aside.{number_in}
 use Rattle.file_handles.specs.Cache.{Cache}
-use Rattle.file_handles.specs.Kept.{Kept, object_at}
-use Rattle.file_handles.specs.Loading.{used_place, user_place}
+use Rattle.handle_table.specs.Kept.{Kept, object_at}
+use Rattle.handle_table.specs.Finding.{used_place, user_place}
 use Rattle.file_handles.specs.Stands.{KeepsWhere, ReachesHistory, Represents}
-use Rattle.file_handles.specs.declared.object.Object.{Object}
-
--- the number of the file of an object that stands aside
-abbrev pub number_in : Option Object → Option ℕ
-number_in x = option_and_then (λ y. y.aside) x
-
--- the numbers of the files that stand aside
-abbrev pub numbers_in : List (Option Object) → List ℕ
-numbers_in objects = filter_map number_in objects
 
 -- what stands under a name is doomed, whatever the history in whose marks the name is touched
 pub record DoomsUnder {T E : Type 0} (name : List ℕ) (answer : Result T E) (before after : Cache)

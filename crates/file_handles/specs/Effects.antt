@@ -21,14 +21,14 @@ use Rattle.index_record.specs.declared.record.IndexRecord.{IndexRecord}
 use Rattle.index_theory.specs.Scan.{record_of, scanned}
 use Rattle.record_list.specs.Lists.{same_name}
 use Rattle.record_list.specs.Stored.{IsClean}
-use Rattle.file_handles.specs.Held.{IsHeldAs}
-use Rattle.file_handles.specs.Kept.{Kept}
-use Rattle.file_handles.specs.Stands.{HandlesStand}
+use Rattle.handle_table.specs.Held.{IsHeldAs}
+use Rattle.handle_table.specs.Kept.{Kept}
+use Rattle.handle_table.specs.Standing.{HandlesStand}
 use Rattle.file_handles.specs.declared.fault.Effect.{Effect}
 use Rattle.file_handles.specs.declared.fault.Effect.TheVariants as effect
-use Rattle.file_handles.specs.declared.object.Entry.{Entry}
-use Rattle.file_handles.specs.declared.object.Entry.TheVariants as entry
-use Rattle.file_handles.specs.declared.object.Object.{Object}
+use Rattle.handle_table.specs.declared.object.Entry.{Entry}
+use Rattle.handle_table.specs.declared.object.Entry.TheVariants as entry
+use Rattle.handle_table.specs.declared.object.Object.{Object}
 
 -- the name of a key
 abbrev pub name_of : List ℕ → Name

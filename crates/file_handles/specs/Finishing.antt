@@ -12,11 +12,11 @@ use Rattle.entry_parts.specs.Elements.{AreElements, elements_bytes}
 use Rattle.entry_parts.specs.Header.{IsHeader}
 use Rattle.entry_parts.specs.declared.header.TheConstants.{VERSION}
 use Rattle.file_handles.specs.Changes.{completed}
-use Rattle.file_handles.specs.Held.{is_draft}
+use Rattle.handle_table.specs.Held.{is_draft}
 use Rattle.file_handles.specs.Setting.{has_small_block}
-use Rattle.file_handles.specs.declared.object.Entry.{Entry}
-use Rattle.file_handles.specs.declared.object.Object.{Object}
-use Rattle.file_handles.specs.declared.object.Parts.{Parts}
+use Rattle.handle_table.specs.declared.object.Entry.{Entry}
+use Rattle.handle_table.specs.declared.object.Object.{Object}
+use Rattle.handle_table.specs.declared.object.Parts.{Parts}
 
 -- the command that finishes the entry of a slot with the parts that are given, or else with its own
 abbrev pub finish_command : Option Parts → ℕ → Command

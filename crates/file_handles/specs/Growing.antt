@@ -11,11 +11,11 @@ use Rattle.cache_theory.specs.declared.refusal.Refusal.TheVariants as refused
 use Rattle.entry_file.specs.Held.{held}
 use Rattle.entry_file.specs.NewEntry.{grown_len}
 use Rattle.file_handles.specs.Answers.{done_or}
-use Rattle.file_handles.specs.Kept.{Kept}
-use Rattle.file_handles.specs.Stands.{HandlesStand}
+use Rattle.handle_table.specs.Kept.{Kept}
+use Rattle.handle_table.specs.Standing.{HandlesStand}
 use Rattle.file_handles.specs.declared.fault.HandleFault.{HandleFault}
-use Rattle.file_handles.specs.declared.object.Entry.{Entry}
-use Rattle.file_handles.specs.declared.object.Entry.TheVariants as entry
+use Rattle.handle_table.specs.declared.object.Entry.{Entry}
+use Rattle.handle_table.specs.declared.object.Entry.TheVariants as entry
 
 -- the first reason why so many bytes may not be appended to an entry
 abbrev pub grow_fault : Entry → ℕ → Result (Unit {0}) Refusal

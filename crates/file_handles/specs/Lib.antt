@@ -1,15 +1,11 @@
 pub mod Answers
-pub mod Held
-pub mod Seats
 pub mod Kept
 pub mod Cache
-pub mod HeldChunks
 pub mod Stands
 pub mod Carries
 pub mod Effects
 pub mod Changes
 pub mod Publishing
-pub mod Finding
 pub mod Growing
 pub mod Setting
 pub mod Finishing
@@ -25,6 +21,5 @@ pub mod Found
 pub mod Refuses
 pub mod Removing
 pub mod Failing
-pub mod Users
 pub mod Unsynced
 pub mod Promises

@@ -1,5 +1,5 @@
 -- What the calls on entries in use have in common: each record here is one clause of several of them.
-use Rattle.std.specs.Prelude.{Err, IfOk, IsTrue, OnOk, Option, Result, Some, ℕ, ◌+◌, ◌<◌, ◌≡◌, ◌≢◌, ◌≤◌, ◌⊎◌, IfSome}
+use Rattle.std.specs.Prelude.{Err, IfOk, IsTrue, OnOk, Option, Result, Some, ℕ, ◌+◌, ◌≡◌, ◌≢◌, ◌≤◌, ◌⊎◌, IfSome}
 use Rattle.cache_base.specs.declared.name.Name.{Name}
 use Rattle.disk_theory.specs.Account.{Accounts, FailsInChange, OnlyChanges, no_sync}
 use Rattle.disk_theory.specs.Told.{Told}
@@ -8,19 +8,20 @@ use Rattle.index_theory.specs.Leaves.{LeavesBeside}
 use Rattle.file_handles.specs.Answers.{OnRead, OnRefused, done_or, ending}
 use Rattle.file_handles.specs.Cache.{cache_at}
 use Rattle.file_handles.specs.Carries.{CarriesOut}
-use Rattle.file_handles.specs.Dooming.{IsUnfinishedAt, LeavesMark, TakesEntry, TakesFirstFree, number_in}
+use Rattle.handle_table.specs.Aside.{number_in}
+use Rattle.file_handles.specs.Dooming.{IsUnfinishedAt, LeavesMark, TakesEntry, TakesFirstFree}
 use Rattle.file_handles.specs.Effects.{HasEffect, IsPlainEffect}
 use Rattle.file_handles.specs.Failing.{LeavesAll}
 use Rattle.file_handles.specs.Finishing.{finish_calls, finish_command, finish_syncs}
-use Rattle.file_handles.specs.HeldChunks.{SameChunks}
-use Rattle.file_handles.specs.Kept.{Kept, object_at, object_in}
+use Rattle.handle_table.specs.HeldChunks.{SameChunks}
+use Rattle.handle_table.specs.Kept.{Kept, object_at, object_in}
 use Rattle.file_handles.specs.PuttingAlt.{chunks_but_own}
 use Rattle.file_handles.specs.Refuses.{TellsNoSlot}
 use Rattle.file_handles.specs.Unsynced.{SyncsNothing}
 use Rattle.file_handles.specs.declared.fault.Effect.{Effect}
 use Rattle.file_handles.specs.declared.fault.HandleFault.{HandleFault}
 use Rattle.file_handles.specs.declared.fault.HandleFault.TheVariants as fault
-use Rattle.file_handles.specs.declared.object.Parts.{Parts}
+use Rattle.handle_table.specs.declared.object.Parts.{Parts}
 
 -- the chunks in memory stay, `no slot` is refused just where the slot has no object, and no look at the disk fails
 pub record KeepsHandles {T : Type 0} (slot : ℕ) (answer : Result T HandleFault) (k after : Kept)

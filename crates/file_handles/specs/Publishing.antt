@@ -10,11 +10,11 @@ use Rattle.disk_theory.specs.declared.disk.DiskFault.{DiskFault}
 use Rattle.disk_theory.specs.declared.place.Place.TheVariants.{Doomed, Entry}
 use Rattle.file_handles.specs.Cache.{Cache}
 use Rattle.file_handles.specs.Changes.{IsFiledAs, IsMomentOf}
-use Rattle.file_handles.specs.Held.{IsHeldAs, object_place}
-use Rattle.file_handles.specs.HeldChunks.{KeepsChunks}
-use Rattle.file_handles.specs.Kept.{object_at, with_object}
+use Rattle.handle_table.specs.Held.{IsHeldAs, object_place}
+use Rattle.handle_table.specs.HeldChunks.{KeepsChunks}
+use Rattle.handle_table.specs.Kept.{object_at, with_object}
 use Rattle.file_handles.specs.declared.fault.HandleFault.{HandleFault}
-use Rattle.file_handles.specs.declared.object.Object.{Object}
+use Rattle.handle_table.specs.declared.object.Object.{Object}
 
 -- all is synced, and then the file of the number is moved to the name
 abbrev pub published : ℕ → Name → State → State

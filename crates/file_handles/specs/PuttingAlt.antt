@@ -18,12 +18,12 @@ use Rattle.entry_parts.specs.Setting.{with_element}
 use Rattle.file_handles.specs.Cache.{Cache, cache_at}
 use Rattle.file_handles.specs.Changes.{ChangesAt, with_version}
 use Rattle.file_handles.specs.Closing.{without_object}
-use Rattle.file_handles.specs.Held.{body_len_in, object_place}
-use Rattle.file_handles.specs.Kept.{Kept, object_at, object_in, without_chunks}
+use Rattle.handle_table.specs.Held.{body_len_in, object_place}
+use Rattle.handle_table.specs.Kept.{Kept, object_at, object_in, without_chunks}
 use Rattle.file_handles.specs.declared.fault.HandleFault.{HandleFault}
-use Rattle.file_handles.specs.declared.object.Entry.{Entry}
-use Rattle.file_handles.specs.declared.object.Entry.TheVariants as entry
-use Rattle.file_handles.specs.declared.object.Object.{Object}
+use Rattle.handle_table.specs.declared.object.Entry.{Entry}
+use Rattle.handle_table.specs.declared.object.Entry.TheVariants as entry
+use Rattle.handle_table.specs.declared.object.Object.{Object}
 
 -- the file of the object is that of this version
 abbrev pub HasVersion : State → Object → Version → Type 0

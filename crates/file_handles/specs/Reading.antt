@@ -7,13 +7,14 @@ use Rattle.chunk_cache.specs.Cached.{StandsFirst, bytes_of}
 use Rattle.disk_theory.specs.State.{standing}
 use Rattle.file_handles.specs.Answers.{OnRead}
 use Rattle.file_handles.specs.Cache.{Cache}
-use Rattle.file_handles.specs.Held.{body_len_in, object_place, rest_in}
-use Rattle.file_handles.specs.HeldChunks.{ChunksStand, MayLoseLast, PutsFirst}
-use Rattle.file_handles.specs.Kept.{Kept, object_in}
-use Rattle.file_handles.specs.Stands.{HandlesStand, Represents, Stands}
-use Rattle.file_handles.specs.declared.object.Entry.{Entry}
+use Rattle.handle_table.specs.Held.{body_len_in, object_place, rest_in}
+use Rattle.handle_table.specs.HeldChunks.{ChunksStand, MayLoseLast, PutsFirst}
+use Rattle.handle_table.specs.Kept.{Kept, object_in}
+use Rattle.handle_table.specs.Standing.{HandlesStand}
+use Rattle.file_handles.specs.Stands.{Represents, Stands}
+use Rattle.handle_table.specs.declared.object.Entry.{Entry}
 use Rattle.file_handles.specs.declared.fault.HandleFault.{HandleFault}
-use Rattle.file_handles.specs.declared.object.Object.{Object}
+use Rattle.handle_table.specs.declared.object.Object.{Object}
 use Rattle.file_handles.specs.declared.read.StoredChunk.{StoredChunk}
 
 -- the bytes of a body from a place on, up to so many or to the end of their chunk

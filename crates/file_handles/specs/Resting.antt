@@ -1,7 +1,8 @@
 -- Handles of which a part is lent.
 use Rattle.std.specs.Borrow.{Fml, MutBor}
 use Rattle.std.specs.Io.BufRead.{Rests}
-use Rattle.file_handles.specs.Kept.{Kept, kept}
+use Rattle.handle_table.specs.Kept.{Kept}
+use Rattle.file_handles.specs.Kept.{kept}
 use Rattle.file_handles.specs.contracts.handles.Handles.{the_row}
 use Rattle.file_handles.specs.declared.handles.Handles.{Handles}
 

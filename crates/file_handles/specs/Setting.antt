@@ -12,11 +12,11 @@ use Rattle.entry_parts.specs.Setting.{set_fault, with_element, without_element}
 use Rattle.entry_parts.specs.declared.header.Header.{Header}
 use Rattle.frecency.specs.Frecency.{next as next_frecency}
 use Rattle.index_record.specs.Filling.{bit_if}
-use Rattle.file_handles.specs.Held.{body_len_in, key_in}
+use Rattle.handle_table.specs.Held.{body_len_in, key_in}
 use Rattle.file_handles.specs.declared.change.Change.{Change}
 use Rattle.file_handles.specs.declared.change.Change.TheVariants as change
-use Rattle.file_handles.specs.declared.object.Entry.{Entry}
-use Rattle.file_handles.specs.declared.object.Entry.TheVariants as entry
+use Rattle.handle_table.specs.declared.object.Entry.{Entry}
+use Rattle.handle_table.specs.declared.object.Entry.TheVariants as entry
 
 -- the elements after a change
 abbrev pub changed_by : Change → List Element → List Element

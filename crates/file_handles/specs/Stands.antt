@@ -1,37 +1,16 @@
 -- The handles and the disk as the machine has them.
-use Rattle.std.specs.Prelude.{Bool, IsSome, IsTrue, OnOk, Result, Some, option_map, ℕ, ◌<◌, ◌≡◌}
-use Rattle.cache_base.specs.declared.limits.TheConstants.{SLOTS}
+use Rattle.std.specs.Prelude.{Bool, IsTrue, OnOk, Result, Some, ℕ, ◌≡◌}
 use Rattle.cache_theory.specs.Crash.{IsCrashKept, IsSafe}
 use Rattle.cache_theory.specs.History.{History}
-use Rattle.cache_theory.specs.Machine.{Machine, Slot, object}
-use Rattle.cache_theory.specs.Proper.{IsInUse, IsProper}
+use Rattle.cache_theory.specs.Machine.{Machine}
+use Rattle.cache_theory.specs.Proper.{IsProper}
 use Rattle.cache_theory.specs.Stands.{AsideStand, EntriesStand}
 use Rattle.disk_theory.specs.Image.{Files}
 use Rattle.disk_theory.specs.State.{standing}
+use Rattle.handle_table.specs.Standing.{HandlesStand}
 use Rattle.file_handles.specs.Cache.{Cache}
-use Rattle.file_handles.specs.Held.{IsHeldAs}
-use Rattle.file_handles.specs.HeldChunks.{ChunksStand}
-use Rattle.file_handles.specs.Kept.{Kept, object_at, use_at}
-use Rattle.file_handles.specs.declared.object.Object.{Object}
-use Rattle.file_handles.specs.declared.object.Use.{Use}
-
--- the machine's slot for a use, where `number` gives the machine's number of the object at a place
-abbrev pub slot_of : (ℕ → ℕ) → Use → Slot
-slot_of number u = record { object = number u.place; writes = u.writes }
-
--- the object at a place is the machine's of its number, which is in use
-pub record IsObjectOf (m : Machine) (i : ℕ) (x : Object) : Type 0 where
-  pub in_use : IsInUse m i
-  pub as_held : IsHeldAs x (object m i)
-
--- the handles are the machine's slots and objects in use
-pub record HandlesStand (k : Kept) (m : Machine) (number : ℕ → ℕ) : Type 0 where
-  pub slots : (s : ℕ) → s < SLOTS → m.slots s ≡ option_map (slot_of number) (use_at k s)
-  pub used : (s : ℕ) (u : Use) → use_at k s ≡ Some u → IsSome (object_at k u.place)
-  pub objects : (p : ℕ) (x : Object) → object_at k p ≡ Some x → IsObjectOf m (number p) x
-  pub apart : (p q : ℕ) (x y : Object) → object_at k p ≡ Some x → object_at k q ≡ Some y
-      → number p ≡ number q → p ≡ q
-  pub chunks : ChunksStand k m number
+use Rattle.handle_table.specs.Kept.{Kept, object_at}
+use Rattle.handle_table.specs.declared.object.Object.{Object}
 
 -- the file of the machine's object of a number has this number among the doomed
 pub record IsAt (k : Kept) (number : ℕ → ℕ) (aside i : ℕ) : Type 0 where

@@ -8,15 +8,15 @@ ghost use Rattle.disk_theory.specs.Account.{OnlyChanges, no_sync};
 ghost use Rattle.disk_theory.specs.Told.{Told};
 ghost use Rattle.file_handles.specs.Answers.{OnRefused, done_or, ending};
 ghost use Rattle.file_handles.specs.Growing.{AnswersInChunk, FitsInChunk, grow_fault};
-ghost use Rattle.file_handles.specs.Held.{rest_in};
+ghost use Rattle.handle_table.specs.Held.{rest_in};
 ghost use Rattle.file_handles.specs.Unsynced.{SyncsNothing};
 ghost use Rattle.file_handles.specs.Promises.{ChangesFiles, KeepsHandles};
 
-use crate::object::{Draft, Entry};
 use crate::{HandleFault, Handles};
 use cache_base::BODY_MAX;
 use cache_theory::Refusal;
 use disk_theory::Disk;
+use handle_table::{Draft, Entry};
 
 // The first reason why so many bytes may not be appended to an entry, if there is one.
 fn may_grow(entry: &Entry, more: usize) -> Result<(), Refusal>
@@ -36,10 +36,12 @@ impl Handles {
     ghost use Rattle.file_handles.specs.Cache.{cache};
     ghost use Rattle.file_handles.specs.Carries.{CarriesOut};
     ghost use Rattle.file_handles.specs.Changes.{ChangesThere, IsFiledAt, appended};
-    ghost use Rattle.file_handles.specs.HeldChunks.{SameChunks};
-    ghost use Rattle.file_handles.specs.Kept.{kept, object_at as object_kept_at};
-    ghost use Rattle.file_handles.specs.Refuses.{ChecksNoSlot, Passes, Refuses, UsesObject};
-    ghost use Rattle.file_handles.specs.Stands.{HandlesStand, RepresentsSome};
+    ghost use Rattle.handle_table.specs.HeldChunks.{SameChunks};
+    ghost use Rattle.handle_table.specs.Kept.{object_at as object_kept_at};
+    ghost use Rattle.file_handles.specs.Kept.{kept};
+    ghost use Rattle.handle_table.specs.Refuses.{ChecksNoSlot, Passes, Refuses, UsesObject};
+    ghost use Rattle.handle_table.specs.Standing.{HandlesStand};
+    ghost use Rattle.file_handles.specs.Stands.{RepresentsSome};
 
     // The place of the draft to which a slot may append so many bytes.
     fn may_append(&self, slot: u8, more: usize) -> Result<usize, Refusal>
@@ -52,8 +54,8 @@ impl Handles {
         ensures object { IfOk result (λ place.
             UsesObject (kept self.now) slot place (λ x. grow_fault x.entry more ≡ Ok tt)) }
     {
-        let used = self.writing(slot)?;
-        let object = self.object_at(used.place);
+        let used = self.table.writing(slot)?;
+        let object = self.table.object_at(used.place);
         may_grow(&object.entry, more)?;
         Ok(used.place)
     }
@@ -80,7 +82,7 @@ impl Handles {
         ensures no_read { result ≢ Err HandleFault.Read }
         ensures disk { OnlyChanges D.Disk (ending result) no_sync disk.old disk.new }
     {
-        let (label, entry) = self.take_apart(place);
+        let (label, entry) = self.table.take_apart(place);
         let file = label.file_place();
         let Entry::Draft(draft) = entry else {
             unreachable!();
@@ -99,7 +101,7 @@ impl Handles {
             key,
             elements,
         });
-        self.put_entry(place, label, entry);
+        self.table.put_entry(place, label, entry);
         Ok(())
     }
 

@@ -8,11 +8,10 @@ ghost use Rattle.entry_parts.specs.declared.fault.PartsFault;
 ghost use Rattle.index_record.specs.Filling.{bit_if};
 ghost use Rattle.file_handles.specs.Answers.{OnRefused, ending};
 ghost use Rattle.file_handles.specs.Effects.{IsLearntOf, IsPlainEffect};
-ghost use Rattle.file_handles.specs.Held.{elements_in, is_draft};
+ghost use Rattle.handle_table.specs.Held.{elements_in, is_draft};
 ghost use Rattle.file_handles.specs.Setting.{HasRoom, MaySet, changed_by, header_by, with_change};
 
 use crate::finish::learnt_of;
-use crate::object::{Draft, Entry};
 use crate::{Effect, HandleFault, Handles};
 use cache_base::{Moment, NoMemory};
 use disk_theory::Disk;
@@ -20,6 +19,7 @@ use entry_file::rewrite_meta;
 use entry_metadata::Meta;
 use entry_parts::{Elements, Header, PartsFault};
 use frecency::next as next_frecency;
+use handle_table::{Draft, Entry};
 use std::alloc::Global;
 
 /// A change of an entry: of its elements, one more use at a moment, or that it is pinned from now on or no longer.
@@ -140,8 +140,9 @@ fn changed_meta(meta: Meta, change: Change<'_>) -> Result<Meta, NoMemory>
 impl Handles {
     ghost use Rattle.file_handles.specs.Cache.{cache};
     ghost use Rattle.file_handles.specs.Changes.{ChangesThere, IsFiledAt, with_version};
-    ghost use Rattle.file_handles.specs.HeldChunks.{SameChunks};
-    ghost use Rattle.file_handles.specs.Kept.{kept, object_at as object_kept_at};
+    ghost use Rattle.handle_table.specs.HeldChunks.{SameChunks};
+    ghost use Rattle.handle_table.specs.Kept.{object_at as object_kept_at};
+    ghost use Rattle.file_handles.specs.Kept.{kept};
 
     /// Makes a change of the object at a place. The metadata of a finished entry are rewritten.
     pub(crate) fn change_at<D: Disk>(
@@ -172,7 +173,7 @@ impl Handles {
             (D.counts disk.new).calls ≤ (D.counts disk.old).calls + 1) }
         ensures disk { OnlyChanges D.Disk (ending result) no_sync disk.old disk.new }
     {
-        let (label, entry) = self.take_apart(place);
+        let (label, entry) = self.table.take_apart(place);
         let file = label.file_place();
         let entry = match entry {
             Entry::Draft(draft) => Entry::Draft(changed_draft(draft, change)?),
@@ -183,7 +184,7 @@ impl Handles {
             }
         };
         let effect = learnt_of(&label.name, label.doomed, &entry);
-        self.put_entry(place, label, entry);
+        self.table.put_entry(place, label, entry);
         Ok(effect)
     }
 }

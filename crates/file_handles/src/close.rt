@@ -1,7 +1,6 @@
 //! Closes a slot, and all slots at the end.
 
-ghost use Rattle.std.specs.Prelude.{◌≡◌, ◌<◌, ◌&&◌, IfOk, IsSome, IsTrue, None, OnOk, Some, false, length, option_map, ◌≢◌, Err, ◌+◌, ◌≤◌, IfSome};
-ghost use Rattle.std.specs.List.{list_any};
+ghost use Rattle.std.specs.Prelude.{◌≡◌, ◌<◌, ◌&&◌, IfOk, IsSome, IsTrue, None, OnOk, Some, false, option_map, ◌≢◌, Err, ◌+◌, ◌≤◌, IfSome};
 ghost use Rattle.cache_base.specs.declared.limits.TheConstants.{SLOTS};
 ghost use Rattle.cache_theory.specs.Command.Command.{Close};
 ghost use Rattle.disk_theory.specs.Account.{OnlyChanges, ending as disk_ending, no_sync};
@@ -13,37 +12,16 @@ ghost use Rattle.file_handles.specs.Answers.{OnRefused, done_or, ending};
 ghost use Rattle.file_handles.specs.Closing.{is_some_draft, let_go_by};
 ghost use Rattle.file_handles.specs.Effects.{HasEffect, IsPlainEffect};
 ghost use Rattle.file_handles.specs.Finishing.{finish_calls};
-ghost use Rattle.file_handles.specs.Held.{object_place};
-ghost use Rattle.file_handles.specs.Seats.{is_use_of};
+ghost use Rattle.handle_table.specs.Held.{object_place};
 ghost use Rattle.file_handles.specs.Unsynced.{SyncsNothing};
 ghost use Rattle.index_theory.specs.Leaves.{LeavesBeside};
 ghost use Rattle.file_handles.specs.Promises.{ChangesFiles};
 
-use crate::handles::take_at;
-use crate::object::{Entry, Object, Use};
 use crate::{Effect, HandleFault, Handles};
-use cache_base::SLOTS;
 use disk_theory::{Disk, DiskFault};
 use doom_area::release;
+use handle_table::{Entry, Object, Use};
 use std::alloc::Global;
-
-/// Whether the use is of this place.
-pub(crate) fn uses(used: &Option<Use>, place: usize) -> bool
-    ensures { result ≡ is_use_of place used.now }
-{
-    match used {
-        Some(used) => used.place == place,
-        None => false,
-    }
-}
-
-// Whether some slot uses the place.
-fn is_used(slots: &[Option<Use>; SLOTS], place: usize) -> bool
-    ensures used { result ≡ list_any (is_use_of place) slots.now }
-    ensures length { length slots.now ≡ SLOTS }
-{
-    slots.iter().any(|used| uses(used, place))
-}
 
 // Removes the file of an object that no slot uses any more, if it stands aside.
 fn let_go<D: Disk>(disk: &mut D, object: &Object) -> Result<(), DiskFault>
@@ -63,8 +41,9 @@ impl Handles {
     ghost use Rattle.file_handles.specs.Cache.{cache};
     ghost use Rattle.file_handles.specs.Carries.{CarriesOut};
     ghost use Rattle.file_handles.specs.Closing.{ClosesAll, ClosesChunks, FinishesFirst, GivesUp, MayGiveUp, chunks_left, close_syncs, writes_draft};
-    ghost use Rattle.file_handles.specs.HeldChunks.{SameChunks};
-    ghost use Rattle.file_handles.specs.Kept.{kept, number_at, object_at as object_kept_at, object_in, use_at};
+    ghost use Rattle.handle_table.specs.HeldChunks.{SameChunks};
+    ghost use Rattle.handle_table.specs.Kept.{number_at, object_at as object_kept_at, object_in, use_at};
+    ghost use Rattle.file_handles.specs.Kept.{kept};
     ghost use Rattle.file_handles.specs.Refuses.{TellsNoSlot};
     ghost use Rattle.file_handles.specs.Stands.{RepresentsSome};
 
@@ -74,7 +53,7 @@ impl Handles {
         ensures { result ≡ (used.writes
             && is_some_draft (object_kept_at (kept self.now) used.place)) }
     {
-        used.writes && matches!(self.object_at(used.place).entry, Entry::Draft(_))
+        used.writes && matches!(self.table.object_at(used.place).entry, Entry::Draft(_))
     }
 
     // Finishes the entry of a slot that writes it, if it is not finished, before the slot is given up.
@@ -133,19 +112,11 @@ impl Handles {
             (D.counts disk.new).calls ≤ (D.counts disk.old).calls + 1 }
         ensures disk { OnlyChanges D.Disk (disk_ending result) no_sync disk.old disk.new }
     {
-        // Each object has a slot that uses it: so it goes with its last one.
-        let table = &mut self.table;
-        table.slots[usize::from(slot)] = None;
-        if is_used(&table.slots, place) {
+        self.table.has_rows();
+        let Some(object) = self.table.leave(slot, place) else {
             return Ok(());
-        }
-        match take_at(&mut table.objects, place) {
-            Some(object) => {
-                self.chunks.forget(object.number);
-                let_go(disk, &object)
-            }
-            None => unreachable!(),
-        }
+        };
+        let_go(disk, &object)
     }
 
     /// Closes a slot. If it writes an entry that is not finished, the entry is finished first. The file of a doomed
@@ -173,7 +144,7 @@ impl Handles {
             IfSome (object_in (kept self.old) slot) (λ x. (D.counts disk.new).calls
             ≤ (D.counts disk.old).calls + finish_calls x + 1)) }
     {
-        let used = self.live_use(slot)?;
+        let used = self.table.live_use(slot)?;
         let effect = self.finish_first(alloc, disk, slot, used)?;
         self.give_up(disk, slot, used.place)?;
         Ok(effect)
@@ -189,7 +160,7 @@ impl Handles {
         ensures index { Told D.Disk LeavesBeside disk.old disk.new }
         ensures disk { OnlyChanges D.Disk (disk_ending result) no_sync disk.old disk.new }
     {
-        for object in &self.table.objects {
+        for object in &self.table.rows.objects {
             if let Some(object) = object {
                 let_go(disk, object)?;
             }

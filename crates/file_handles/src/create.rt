@@ -1,6 +1,6 @@
 //! Makes a new entry, which a slot writes.
 
-ghost use Rattle.std.specs.Prelude.{◌≡◌, ◌≢◌, ◌<◌, Err, false, true, IfOk, IsTrue, None, OnOk, Some, is_some, length};
+ghost use Rattle.std.specs.Prelude.{◌≡◌, ◌≢◌, ◌<◌, Err, false, true, IfOk, IsTrue, OnOk, Some, is_some};
 ghost use Rattle.cache_base.specs.declared.limits.TheConstants.{SLOTS};
 ghost use Rattle.cache_theory.specs.Command.Command.{Create};
 ghost use Rattle.cache_theory.specs.Step.{fresh};
@@ -8,28 +8,25 @@ ghost use Rattle.disk_theory.specs.Account.{Accounts, Ending, FailsInChange, Loo
 ghost use Rattle.disk_theory.specs.State.{standing};
 ghost use Rattle.disk_theory.specs.Told.{Told};
 ghost use Rattle.disk_theory.specs.declared.place.Place.TheVariants.{Doomed as DoomedAt, Entry as EntryAt};
-ghost use Rattle.doom_area.specs.DoomArea.{IsLeastFree};
 ghost use Rattle.entry_key.specs.Writing.{may_write as may_write_of};
 ghost use Rattle.entry_name.specs.EntryName.{file_name};
 ghost use Rattle.file_handles.specs.Answers.{OnRead, OnRefused, done_or, ending};
 ghost use Rattle.file_handles.specs.Creating.{MayHaveMade, MayHaveRemoved};
 ghost use Rattle.file_handles.specs.Dooming.{TakesFirstFree};
 ghost use Rattle.file_handles.specs.Effects.{HasEffect, IsPlainEffect};
-ghost use Rattle.file_handles.specs.Held.{IsHeldAs};
+ghost use Rattle.handle_table.specs.Held.{IsHeldAs};
 ghost use Rattle.file_handles.specs.Promises.{LooksThenChanges};
 
-use crate::doom::doomed_numbers;
 use crate::fault::look_fault;
-use crate::object::{Draft, Entry, Object};
 use crate::{Effect, HandleFault, Handles};
-use cache_base::{Bytes, Moment, Name, SLOTS};
+use cache_base::{Bytes, Moment, Name};
 use cache_theory::Refusal;
 use disk_theory::{Disk, Place};
-use doom_area::least;
 use entry_file::begin;
 use entry_key::may_write;
 use entry_name::name_of;
 use entry_parts::{Elements, Header};
+use handle_table::{Draft, Entry, Object};
 use std::alloc::Global;
 
 // A new draft of a key with this number and name, and its file, which is new and empty and has this number among the
@@ -101,9 +98,9 @@ fn remove_file<D: Disk>(disk: &mut D, name: &Name) -> Result<(), HandleFault>
 impl Handles {
     ghost use Rattle.file_handles.specs.Cache.{cache};
     ghost use Rattle.file_handles.specs.Carries.{CarriesOutAt};
-    ghost use Rattle.file_handles.specs.Dooming.{DoomsUnder, numbers_in};
-    ghost use Rattle.file_handles.specs.HeldChunks.{SameChunks};
-    ghost use Rattle.file_handles.specs.Kept.{kept, use_at};
+    ghost use Rattle.file_handles.specs.Dooming.{DoomsUnder};
+    ghost use Rattle.handle_table.specs.HeldChunks.{SameChunks};
+    ghost use Rattle.file_handles.specs.Kept.{kept};
     ghost use Rattle.file_handles.specs.Stands.{RepresentsSome};
 
     // Dooms what stands under a name: the undoomed object in use, or else the file that is there.
@@ -123,19 +120,6 @@ impl Handles {
         }
         remove_file(disk, name)?;
         Ok(())
-    }
-
-    // The least number that no file in use has. While a slot is free they are fewer than the table has rows.
-    fn free_number(&self, slot: u8) -> u32
-        requires slot { slot < SLOTS }
-        requires free { use_at (kept self.now) slot ≡ None }
-        ensures least { IsLeastFree (numbers_in (kept self.now).objects) result }
-        ensures few { length (numbers_in (kept self.now).objects) < SLOTS }
-        ensures low { result < SLOTS }
-    {
-        self.has_rows();
-        let aside = doomed_numbers(&self.table.objects);
-        least(&aside.numbers[..aside.count])
     }
 
     /// Makes a new entry of a key at this moment, which the slot writes. What stood under the name is doomed.
@@ -161,7 +145,7 @@ impl Handles {
         ensures looks { LooksThenChanges D.Disk result (kept self.old) (kept self.new) disk.old
             disk.new }
     {
-        if self.use_of(slot).is_ok() {
+        if self.table.use_of(slot).is_ok() {
             return Err(HandleFault::Refused(Refusal::SlotTaken));
         }
         if !may_write(key) {
@@ -169,9 +153,9 @@ impl Handles {
         }
         let name = name_of(key);
         self.doom_there(disk, &name)?;
-        self.has_rows();
-        let aside = self.free_number(slot);
-        let object = drafted(alloc, disk, self.made, name, aside, key, now)?;
+        self.table.has_rows();
+        let aside = self.table.free_number(slot);
+        let object = drafted(alloc, disk, self.table.made, name, aside, key, now)?;
         self.add(slot, object, true)?;
         Ok(Effect::Gone(name))
     }

@@ -1,6 +1,6 @@
 //! Dooms an entry: it loses its name, and its file is removed or moved among the doomed.
 
-ghost use Rattle.std.specs.Prelude.{◌≡◌, ◌≢◌, ◌<◌, ◌≤◌, ℕ, Err, false, IfOk, IsSome, IsTrue, None, Ok, OnOk, Some, is_some, length, take};
+ghost use Rattle.std.specs.Prelude.{◌≡◌, ◌≢◌, ◌<◌, ℕ, Err, false, IfOk, IsSome, IsTrue, None, Ok, OnOk, Some, is_some, length};
 ghost use Rattle.cache_base.specs.declared.limits.TheConstants.{SLOTS};
 ghost use Rattle.cache_theory.specs.Command.Command.{Doom};
 ghost use Rattle.cache_theory.specs.Machine.{Machine};
@@ -10,47 +10,22 @@ ghost use Rattle.entry_name.specs.EntryName.{file_name};
 ghost use Rattle.file_handles.specs.Answers.{OnRefused, done_or, ending};
 ghost use Rattle.disk_theory.specs.State.{State, standing};
 ghost use Rattle.disk_theory.specs.declared.place.Place.TheVariants.{Doomed as DoomedAt, Entry as EntryAt};
-ghost use Rattle.file_handles.specs.Dooming.{IsUnfinishedFor, SetsAside, TakesEntry, TakesFirstFree, number_in, numbers_in};
+ghost use Rattle.handle_table.specs.Aside.{number_in};
+ghost use Rattle.file_handles.specs.Dooming.{IsUnfinishedFor, SetsAside, TakesEntry, TakesFirstFree};
 ghost use Rattle.file_handles.specs.Effects.{HasEffect, IsPlainEffect};
-ghost use Rattle.file_handles.specs.Seats.{IsLow};
+ghost use Rattle.handle_table.specs.Seats.{IsLow};
 ghost use Rattle.file_handles.specs.Promises.{DoomsAside, LooksThenChanges};
 
 use crate::find::read_metadata;
-use crate::object::{Label, Object};
 use crate::{Effect, HandleFault, Handles};
-use cache_base::{Name, SLOTS};
+use cache_base::Name;
 use cache_theory::Refusal;
 use disk_theory::{Disk, DiskFault, Place};
 use doom_area::doom as move_to_doomed;
 use entry_key::may_write;
 use entry_name::name_of;
+use handle_table::{Label, doomed_numbers};
 use std::alloc::Global;
-
-/// The numbers of the files in use that stand aside: so many, as the prefix of an array.
-#[derive(Drop)]
-pub(crate) struct DoomedNumbers {
-    pub(crate) numbers: [u32; SLOTS],
-    pub(crate) count: usize,
-}
-
-/// The numbers of the files of these objects that stand aside.
-pub(crate) fn doomed_numbers(objects: &[Option<Object>; SLOTS]) -> DoomedNumbers
-    ensures count { result.count ≤ SLOTS }
-    ensures rows { length objects.now ≡ SLOTS }
-    ensures numbers { take result.count result.numbers ≡ numbers_in objects.now }
-{
-    let mut numbers = [0; SLOTS];
-    let mut count = 0;
-    for object in objects {
-        if let Some(object) = object {
-            if let Some(number) = object.aside {
-                numbers[count] = number;
-                count += 1;
-            }
-        }
-    }
-    DoomedNumbers { numbers, count }
-}
 
 // The number under which the file of an entry stands aside. It is moved there, if it stands under its name.
 fn set_aside<D: Disk>(
@@ -79,11 +54,12 @@ impl Handles {
     ghost use Rattle.file_handles.specs.Cache.{cache, cache_at};
     ghost use Rattle.file_handles.specs.Carries.{CarriesOut};
     ghost use Rattle.file_handles.specs.Dooming.{DoomsUnder, EndsOn};
-    ghost use Rattle.file_handles.specs.HeldChunks.{SameChunks};
-    ghost use Rattle.file_handles.specs.Kept.{kept, object_at as object_kept_at};
-    ghost use Rattle.file_handles.specs.Loading.{used_place, user_place};
+    ghost use Rattle.handle_table.specs.HeldChunks.{SameChunks};
+    ghost use Rattle.handle_table.specs.Kept.{object_at as object_kept_at};
+    ghost use Rattle.file_handles.specs.Kept.{kept};
+    ghost use Rattle.handle_table.specs.Finding.{used_place, user_place};
     ghost use Rattle.file_handles.specs.Stands.{Represents, RepresentsSome};
-    ghost use Rattle.file_handles.specs.Users.{users_of};
+    ghost use Rattle.handle_table.specs.Users.{users_of};
 
     // Dooms the undoomed object in use of a name, which is at this place. Its file moves among the doomed, where it
     // does not stand there.
@@ -101,16 +77,16 @@ impl Handles {
         ensures aside { DoomsAside D.Disk name.now result (kept self.old) (kept self.new) disk.old
             disk.new }
     {
-        let (label, entry) = self.take_apart(place);
+        let (label, entry) = self.table.take_apart(place);
         // Those of the other objects, so fewer than the table has rows.
-        let doomed = doomed_numbers(&self.table.objects);
+        let doomed = doomed_numbers(&self.table.rows.objects);
         let moved_to = set_aside(disk, name, label.aside, &doomed.numbers[..doomed.count])?;
         let label = Label {
             doomed: true,
             aside: Some(moved_to),
             ..label
         };
-        self.put_entry(place, label, entry);
+        self.table.put_entry(place, label, entry);
         Ok(())
     }
 
@@ -131,7 +107,7 @@ impl Handles {
         ensures some { IfOk result (λ doomed.
             doomed ≡ is_some (user_place (kept self.old) name.now)) }
     {
-        match self.user(name) {
+        match self.table.user(name) {
             Some(place) => {
                 self.doom_at(disk, place, name)?;
                 Ok(true)
@@ -187,7 +163,7 @@ impl Handles {
             return Err(HandleFault::Refused(Refusal::BadKey));
         }
         let name = name_of(key);
-        if self.used_by(&name, key).is_some() {
+        if self.table.used_by(&name, key).is_some() {
             return Ok(name);
         }
         read_metadata(alloc, disk, key, &name)?;

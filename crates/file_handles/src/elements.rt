@@ -13,19 +13,19 @@ ghost use Rattle.entry_parts.specs.Elements.{elements_bytes};
 ghost use Rattle.entry_parts.specs.Setting.{has_zero as has_zero_in, set_fault, with_element};
 ghost use Rattle.file_handles.specs.Answers.{done_or, done_or_none};
 ghost use Rattle.file_handles.specs.Effects.{HasEffect, IsPlainEffect};
-ghost use Rattle.file_handles.specs.Held.{body_len_in, elements_in, key_in};
+ghost use Rattle.handle_table.specs.Held.{body_len_in, elements_in, key_in};
 ghost use Rattle.file_handles.specs.Setting.{HasRoom, are_small, has_small_block as has_small_block_of, small_len};
 ghost use Rattle.file_handles.specs.Unsynced.{SyncsNothing};
 ghost use Rattle.file_handles.specs.Promises.{ChangesFiles, KeepsHandles};
 
 use crate::change::Change;
-use crate::object::Entry;
 use crate::{Effect, HandleFault, Handles};
 use cache_base::{BLOCK_MAX, ELEMENTS_MAX};
 use cache_theory::Refusal;
 use disk_theory::Disk;
 use entry_metadata::block_len_of;
 use entry_parts::Elements;
+use handle_table::Entry;
 use std::alloc::Global;
 
 // Whether a zero byte is among them.
@@ -95,8 +95,9 @@ fn may_have(entry: &Entry, elements: &Elements, name: &[u8], value: &[u8]) -> bo
 impl Handles {
     ghost use Rattle.file_handles.specs.Cache.{cache};
     ghost use Rattle.file_handles.specs.Carries.{Answers, CarriesOut};
-    ghost use Rattle.file_handles.specs.Kept.{kept, object_at as object_kept_at, object_in};
-    ghost use Rattle.file_handles.specs.Refuses.{ChecksNoSlot, HasAt, HasNoObject, Passes, Refuses, UsesObject};
+    ghost use Rattle.handle_table.specs.Kept.{object_at as object_kept_at, object_in};
+    ghost use Rattle.file_handles.specs.Kept.{kept};
+    ghost use Rattle.handle_table.specs.Refuses.{ChecksNoSlot, HasAt, HasNoObject, Passes, Refuses, UsesObject};
     ghost use Rattle.file_handles.specs.Stands.{RepresentsSome};
 
     // The place of the object whose elements a slot may change.
@@ -112,8 +113,8 @@ impl Handles {
         ensures object { IfOk result (λ place.
             IsSomeAnd (object_kept_at (kept self.now) place) (HasAt (kept self.now) slot place)) }
     {
-        let used = self.live_use(slot)?;
-        match self.object_at(used.place).entry {
+        let used = self.table.live_use(slot)?;
+        match self.table.object_at(used.place).entry {
             Entry::Draft(_) if !used.writes => Err(Refusal::NotWriter),
             _ => Ok(used.place),
         }
@@ -135,7 +136,7 @@ impl Handles {
         if name.is_empty() || has_zero(name) || has_zero(value) {
             return Err(Refusal::BadElement);
         }
-        let object = self.object_at(place);
+        let object = self.table.object_at(place);
         if may_have(&object.entry, object.elements(), name, value) {
             Ok(place)
         } else {
@@ -196,7 +197,7 @@ impl Handles {
             (D.counts disk.new).calls ≤ (D.counts disk.old).calls + 1) }
     {
         let place = self.may_change(slot)?;
-        if self.object_at(place).elements().get(name).is_none() {
+        if self.table.object_at(place).elements().get(name).is_none() {
             return Ok(None);
         }
         let effect = self.change_at(alloc, disk, place, Change::Remove { name })?;
@@ -213,8 +214,8 @@ impl Handles {
         ensures no_object { IfErr result (HasNoObject (kept self.now) slot) }
         ensures object { OnOk result (IsSome (object_in (kept self.now) slot)) }
     {
-        let used = self.live_use(slot)?;
-        let object = self.object_at(used.place);
+        let used = self.table.live_use(slot)?;
+        let object = self.table.object_at(used.place);
         Ok(object.elements().get(name))
     }
 }

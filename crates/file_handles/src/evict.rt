@@ -18,7 +18,7 @@ impl Handles {
     ghost use Rattle.file_handles.specs.Kept.{kept};
     ghost use Rattle.file_handles.specs.Removing.{FailsInRemoval};
     ghost use Rattle.file_handles.specs.Stands.{RepresentsSome};
-    ghost use Rattle.file_handles.specs.Users.{users_of};
+    ghost use Rattle.handle_table.specs.Users.{users_of};
 
     /// Removes the file of an entry that no slot uses.
     pub fn evict<D: Disk>(&mut self, disk: &mut D, name: &Name) -> Result<(), DiskFault>

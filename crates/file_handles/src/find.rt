@@ -1,8 +1,7 @@
 //! Finds the entry of a key, and whether it is in use.
 
-ghost use Rattle.std.specs.Prelude.{◌≡◌, ◌≢◌, ◌<◌, ◌≤◌, Err, None, false, IfOk, IfSome, IsSome, IsTrue, OnOk, length, take};
+ghost use Rattle.std.specs.Prelude.{◌≡◌, ◌≢◌, ◌<◌, ◌≤◌, Err, None, false, IfOk, IfSome, IsTrue, OnOk, length, take};
 ghost use Rattle.cache_base.specs.Limits.{chunks as chunks_of};
-ghost use Rattle.cache_base.specs.declared.limits.TheConstants.{SLOTS};
 ghost use Rattle.cache_theory.specs.Machine.{is_entry};
 ghost use Rattle.cache_theory.specs.declared.refusal.Refusal.TheVariants as refused;
 ghost use Rattle.chunk_store.specs.Chunks.{chunk as chunk_of};
@@ -20,7 +19,6 @@ ghost use Rattle.file_handles.specs.Answers.{OnRefused, ending};
 ghost use Rattle.file_handles.specs.Loading.{IsMetaFor, LoadsAs};
 
 use crate::fault::look_fault;
-use crate::object::Entry;
 use crate::{HandleFault, Handles};
 use cache_base::{Buffer, Name, chunks};
 use cache_theory::Refusal;
@@ -124,33 +122,8 @@ pub(crate) fn load<D: Disk>(
 impl Handles {
     ghost use Rattle.file_handles.specs.Cache.{cache};
     ghost use Rattle.file_handles.specs.Found.{Finds, HoldsLast, IsFoundUnder};
-    ghost use Rattle.file_handles.specs.Kept.{kept, last_read, object_at as object_kept_at};
-    ghost use Rattle.file_handles.specs.Loading.{is_writing as is_writing_in, used_place};
+    ghost use Rattle.file_handles.specs.Kept.{kept, last_read};
     ghost use Rattle.file_handles.specs.Stands.{RepresentsSome};
-
-    /// The place of the undoomed object in use that has this key, whose name is given.
-    pub(crate) fn used_by(&self, name: &Name, key: &[u8]) -> Option<usize>
-        ensures found { result ≡ used_place (kept self.now) name.now key.now }
-        ensures ranged { IfSome result (λ place. place < SLOTS) }
-        ensures there { IfSome result (λ place. IsSome (object_kept_at (kept self.now) place)) }
-    {
-        let place = self.user(name)?;
-        if self.object_at(place).key() == key {
-            Some(place)
-        } else {
-            None
-        }
-    }
-
-    // Whether the undoomed object in use that has this key is being written.
-    fn is_writing(&self, name: &Name, key: &[u8]) -> bool
-        ensures { result ≡ is_writing_in (kept self.now) name.now key.now }
-    {
-        let Some(place) = self.used_by(name, key) else {
-            return false;
-        };
-        matches!(self.object_at(place).entry, Entry::Draft(_))
-    }
 
     /// The metadata of the finished entry of a key. Every chunk is checked against its hash. The file stands under its
     /// name, and the last chunk is held for `read_found`.
@@ -172,7 +145,7 @@ impl Handles {
             return Err(HandleFault::Refused(Refusal::BadKey));
         }
         let name = name_of(key);
-        if self.is_writing(&name, key) {
+        if self.table.is_writing(&name, key) {
             return Err(HandleFault::Refused(Refusal::Unfinished));
         }
         load(alloc, disk, key, &name, &mut self.chunk)

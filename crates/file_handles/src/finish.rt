@@ -10,19 +10,19 @@ ghost use Rattle.entry_parts.specs.declared.header.TheConstants.{VERSION};
 ghost use Rattle.file_handles.specs.Answers.{OnRefused, ending};
 ghost use Rattle.file_handles.specs.Effects.{IsLearntOf, IsPlainEffect, file_len as file_len_of, learnt_of_held};
 ghost use Rattle.file_handles.specs.Finishing.{AreParts, completed_by, finish_calls, finish_command, finish_fault as finish_fault_of, finish_syncs, parts_by as parts_by_of};
-ghost use Rattle.file_handles.specs.Held.{place_of};
+ghost use Rattle.handle_table.specs.Held.{place_of};
 ghost use Rattle.file_handles.specs.Publishing.{MayPublish};
-ghost use Rattle.file_handles.specs.Seats.{IsLow};
+ghost use Rattle.handle_table.specs.Seats.{IsLow};
 ghost use Rattle.file_handles.specs.Promises.{FinishesEntry};
 
 use crate::elements::has_small_block;
-use crate::object::{Draft, Entry, Label, Parts};
 use crate::{Effect, HandleFault, Handles};
 use cache_base::{Bytes, Name};
 use cache_theory::Refusal;
 use disk_theory::{Disk, DiskFault, Place};
 use entry_metadata::{Meta, block_len};
 use entry_parts::{Elements, Header, VERSION, parts_fit};
+use handle_table::{Draft, Entry, Label, Parts};
 use index_record::of_meta;
 use std::alloc::Global;
 
@@ -120,9 +120,10 @@ impl Handles {
     ghost use Rattle.file_handles.specs.Cache.{cache};
     ghost use Rattle.file_handles.specs.Changes.{IsFiledAt};
     ghost use Rattle.file_handles.specs.Publishing.{CompletesThere};
-    ghost use Rattle.file_handles.specs.HeldChunks.{SameChunks};
-    ghost use Rattle.file_handles.specs.Kept.{kept, number_at, object_at as object_kept_at};
-    ghost use Rattle.file_handles.specs.Refuses.{ChecksNoSlot, Passes, Refuses, UsesObject};
+    ghost use Rattle.handle_table.specs.HeldChunks.{SameChunks};
+    ghost use Rattle.handle_table.specs.Kept.{number_at, object_at as object_kept_at};
+    ghost use Rattle.file_handles.specs.Kept.{kept};
+    ghost use Rattle.handle_table.specs.Refuses.{ChecksNoSlot, Passes, Refuses, UsesObject};
     ghost use Rattle.file_handles.specs.Stands.{RepresentsSome};
 
     // The place of the draft that a slot may finish with the parts that are given, or else with its own.
@@ -135,8 +136,8 @@ impl Handles {
         ensures object { IfOk result (λ place.
             UsesObject (kept self.now) slot place (λ x. finish_fault_of x.entry given.now ≡ None)) }
     {
-        let used = self.writing(slot)?;
-        match finish_fault(&self.object_at(used.place).entry, given) {
+        let used = self.table.writing(slot)?;
+        match finish_fault(&self.table.object_at(used.place).entry, given) {
             Some(refusal) => Err(refusal),
             None => Ok(used.place),
         }
@@ -173,7 +174,7 @@ impl Handles {
         ensures disk { let most = finish_syncs (object_kept_at (kept self.old) place) in
             OnlyChanges D.Disk (ending result) most disk.old disk.new }
     {
-        let (label, entry) = self.take_apart(place);
+        let (label, entry) = self.table.take_apart(place);
         let file = label.file_place();
         let Entry::Draft(draft) = entry else {
             unreachable!();
@@ -190,7 +191,7 @@ impl Handles {
         let aside = publish(disk, &label.name, label.doomed, label.aside)?;
         let entry = Entry::Finished(meta);
         let effect = learnt_of(&label.name, label.doomed, &entry);
-        self.put_entry(place, Label { aside, ..label }, entry);
+        self.table.put_entry(place, Label { aside, ..label }, entry);
         Ok(effect)
     }
 

@@ -19,8 +19,9 @@ use std::alloc::Global;
 impl Handles {
     ghost use Rattle.file_handles.specs.Cache.{cache};
     ghost use Rattle.file_handles.specs.Carries.{CarriesOut};
-    ghost use Rattle.file_handles.specs.Kept.{kept, object_at as object_kept_at};
-    ghost use Rattle.file_handles.specs.Refuses.{ChecksNoSlot, HasAt, Passes, Refuses};
+    ghost use Rattle.handle_table.specs.Kept.{object_at as object_kept_at};
+    ghost use Rattle.file_handles.specs.Kept.{kept};
+    ghost use Rattle.handle_table.specs.Refuses.{ChecksNoSlot, HasAt, Passes, Refuses};
     ghost use Rattle.file_handles.specs.Stands.{RepresentsSome};
 
     // The place of the object that a slot writes.
@@ -34,7 +35,7 @@ impl Handles {
         ensures object { IfOk result (λ place.
             IsSomeAnd (object_kept_at (kept self.now) place) (HasAt (kept self.now) slot place)) }
     {
-        let used = self.writing(slot)?;
+        let used = self.table.writing(slot)?;
         Ok(used.place)
     }
 

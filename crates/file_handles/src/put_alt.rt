@@ -14,14 +14,13 @@ ghost use Rattle.disk_theory.specs.Told.{Told};
 ghost use Rattle.entry_parts.specs.Elements.{element, elements_bytes};
 ghost use Rattle.file_handles.specs.Answers.{OnRefused, done_or, ending};
 ghost use Rattle.file_handles.specs.Effects.{HasEffect, IsLearntOf, IsPlainEffect};
-ghost use Rattle.file_handles.specs.Held.{body_len_in, object_place};
+ghost use Rattle.handle_table.specs.Held.{body_len_in, object_place};
 ghost use Rattle.file_handles.specs.PuttingAlt.{are_small_with, put_fault as put_fault_of, with_alt_at};
 ghost use Rattle.file_handles.specs.Promises.{DropsOwnChunks, LooksThenChanges, MakesTwoCalls};
 
 use crate::change::{Change, changed_elements};
 use crate::fault::look_fault;
 use crate::finish::learnt_of;
-use crate::object::Entry;
 use crate::{Effect, HandleFault, Handles};
 use alt_data::{ALT_DATA, alt_value, grown_hashes};
 use cache_base::{BLOCK_MAX, BODY_MAX, ELEMENTS_MAX, Hashes, NoMemory};
@@ -29,6 +28,7 @@ use cache_theory::Refusal;
 use disk_theory::{Disk, Place};
 use entry_file::grow_body;
 use entry_metadata::{Meta, block_len_of};
+use handle_table::Entry;
 use std::alloc::Global;
 
 // How many digits a number has. So the checks need no memory for the element's value.
@@ -173,10 +173,12 @@ impl Handles {
     ghost use Rattle.file_handles.specs.Carries.{CarriesOut};
     ghost use Rattle.file_handles.specs.Changes.{IsFiledAt, with_version};
     ghost use Rattle.file_handles.specs.Closing.{without_object};
-    ghost use Rattle.file_handles.specs.HeldChunks.{SameChunks};
-    ghost use Rattle.file_handles.specs.Kept.{kept, number_at, object_at as object_kept_at};
+    ghost use Rattle.handle_table.specs.HeldChunks.{SameChunks};
+    ghost use Rattle.handle_table.specs.Kept.{number_at, object_at as object_kept_at};
+    ghost use Rattle.file_handles.specs.Kept.{kept};
     ghost use Rattle.file_handles.specs.PuttingAlt.{AreAsMany, AreHashesWith, KeepsMainBody, MayPut, PutsAlt, PutsThere};
-    ghost use Rattle.file_handles.specs.Refuses.{ChecksNoSlot, Passes, Refuses, TellsNoSlot, UsesObject};
+    ghost use Rattle.handle_table.specs.Refuses.{ChecksNoSlot, Passes, Refuses, UsesObject};
+    ghost use Rattle.file_handles.specs.Refuses.{TellsNoSlot};
     ghost use Rattle.file_handles.specs.Stands.{RepresentsSome};
 
     // The place of the entry after whose body a slot may put the data.
@@ -189,8 +191,8 @@ impl Handles {
         ensures object { IfOk result (λ place.
             UsesObject (kept self.now) slot place (MayPut kind.now (length alt.now))) }
     {
-        let used = self.writing(slot)?;
-        let object = self.object_at(used.place);
+        let used = self.table.writing(slot)?;
+        let object = self.table.object_at(used.place);
         match put_fault(&object.entry, kind, alt.len()) {
             Some(refusal) => Err(refusal),
             None => Ok(used.place),
@@ -221,7 +223,7 @@ impl Handles {
             (D.counts disk.new).calls ≤ (D.counts disk.old).calls + 1 }
         ensures looks { Looks D.Disk (ending result) disk.old disk.new }
     {
-        let object = self.object_at(place);
+        let object = self.table.object_at(place);
         let Entry::Finished(meta) = &object.entry else {
             unreachable!();
         };
@@ -266,17 +268,17 @@ impl Handles {
             (D.counts disk.new).calls ≤ (D.counts disk.old).calls + 1) }
         ensures disk { OnlyChanges D.Disk (ending result) no_sync disk.old disk.new }
     {
-        let (label, entry) = self.take_apart(place);
+        let (label, entry) = self.table.take_apart(place);
         let file = label.file_place();
         let Entry::Finished(old) = entry else {
             unreachable!();
         };
         let meta = grown_meta(alloc, old, kind, alt.len(), hashes)?;
-        self.chunks.forget(label.number);
+        self.table.chunks.forget(label.number);
         grow_body(alloc, disk, &file, &meta, alt)?;
         let entry = Entry::Finished(meta);
         let effect = learnt_of(&label.name, label.doomed, &entry);
-        self.put_entry(place, label, entry);
+        self.table.put_entry(place, label, entry);
         Ok(effect)
     }
 

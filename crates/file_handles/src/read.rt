@@ -10,16 +10,15 @@ ghost use Rattle.chunk_store.specs.Chunks.{chunk as chunk_of};
 ghost use Rattle.disk_theory.specs.Account.{Looks};
 ghost use Rattle.disk_theory.specs.State.{standing};
 ghost use Rattle.file_handles.specs.Answers.{OnRead, OnRefused, ending};
-ghost use Rattle.file_handles.specs.Held.{body_len_in, rest_in};
 ghost use Rattle.file_handles.specs.Reading.{ForBody, ForBodyHeld, HasReadOrNot, HoldsAsBefore, IsPartHeld, IsStoredChunk, LosesNone, SameButChunks, part_of_body, rest_part};
 
 use crate::fault::look_fault;
-use crate::object::{Entry, Object};
 use crate::{HandleFault, Handles};
 use cache_base::{Bytes, CHUNK};
 use cache_theory::Refusal;
 use chunk_store::read_chunk_into;
 use disk_theory::{Disk, Place};
+use handle_table::Object;
 use std::alloc::Global;
 
 /// A chunk of a body that is on the disk.
@@ -31,28 +30,6 @@ pub(crate) struct StoredChunk {
     /// The file that begins with so many bytes of the body.
     pub(crate) file: Place,
     pub(crate) stored: u32,
-}
-
-impl Object {
-    /// The number of bytes of its body.
-    pub(crate) fn body_len(&self) -> u32
-        ensures { result ≡ body_len_in self.now.entry }
-    {
-        match &self.entry {
-            Entry::Draft(draft) => draft.body.len(),
-            Entry::Finished(meta) => meta.offset,
-        }
-    }
-
-    // The bytes of its body that are not on the disk yet.
-    fn rest(&self) -> &[u8]
-        ensures { result.now ≡ rest_in self.now.entry }
-    {
-        match &self.entry {
-            Entry::Draft(draft) => draft.body.rest(),
-            Entry::Finished(_) => &[],
-        }
-    }
 }
 
 // The slice from an index on, up to so many bytes.
@@ -108,11 +85,12 @@ fn read_over<D: Disk>(
 
 impl Handles {
     ghost use Rattle.file_handles.specs.Cache.{cache};
-    ghost use Rattle.file_handles.specs.HeldChunks.{MayLoseLast, PutsFirst};
-    ghost use Rattle.file_handles.specs.Kept.{kept, object_at as object_kept_at, object_in};
+    ghost use Rattle.handle_table.specs.HeldChunks.{MayLoseLast, PutsFirst};
+    ghost use Rattle.handle_table.specs.Kept.{object_at as object_kept_at, object_in};
+    ghost use Rattle.file_handles.specs.Kept.{kept};
     ghost use Rattle.file_handles.specs.Reading.{HasChunkOf};
-    ghost use Rattle.file_handles.specs.declared.object.Object.{Object};
-    ghost use Rattle.file_handles.specs.Refuses.{HasNoObject, Passes, Refuses};
+    ghost use Rattle.handle_table.specs.declared.object.Object.{Object};
+    ghost use Rattle.handle_table.specs.Refuses.{HasNoObject, Passes, Refuses};
     ghost use Rattle.file_handles.specs.Resting.{RestsWith};
     ghost use Rattle.file_handles.specs.Stands.{RepresentsSome};
 
@@ -128,8 +106,8 @@ impl Handles {
         ensures passes { OnOk result ((from len : ℕ) →
             Passes (kept self.now) (ReadPart slot from len)) }
     {
-        let user = self.live_use(slot)?;
-        Ok(self.object_at(user.place).body_len())
+        let user = self.table.live_use(slot)?;
+        Ok(self.table.object_at(user.place).body_len())
     }
 
     /// At most `len` bytes of the body of the entry in a slot, from an offset up to the end of its chunk or of the
@@ -161,7 +139,7 @@ impl Handles {
         ensures no_change { result ≢ Err HandleFault.Disk }
         ensures looks { Looks D.Disk (ending result) disk.old disk.new }
     {
-        let used = self.live_use(slot)?;
+        let used = self.table.live_use(slot)?;
         match self.chunk_of_part(used.place, from, len) {
             Some(chunk) => {
                 self.hold(alloc, disk, &chunk)?;
@@ -179,7 +157,7 @@ impl Handles {
             (λ x. HasChunkOf x from len result) }
         ensures index { IfSome result (λ c. c.index < chunks c.stored) }
     {
-        let object = self.object_at(place);
+        let object = self.table.object_at(place);
         let stored = object.body_len() - object.rest().len() as u32;
         if len == 0 || from >= u64::from(stored) {
             return None;
@@ -216,7 +194,7 @@ impl Handles {
         ensures no_change { result ≢ Err HandleFault.Disk }
         ensures looks { Looks D.Disk (ending result) disk.old disk.new }
     {
-        if self.chunks.look(chunk.number, chunk.index).is_some() {
+        if self.table.chunks.look(chunk.number, chunk.index).is_some() {
             return Ok(());
         }
         // A chunk goes only once the new one is there, and its memory is used again for the next.
@@ -225,8 +203,8 @@ impl Handles {
             None => Bytes::new(alloc),
         };
         read_over(disk, chunk, &mut bytes)?;
-        self.spare = self.chunks.evict();
-        self.chunks.keep(chunk.number, chunk.index, bytes)?;
+        self.spare = self.table.chunks.evict();
+        self.table.chunks.keep(chunk.number, chunk.index, bytes)?;
         Ok(())
     }
 
@@ -240,10 +218,8 @@ impl Handles {
               chunks = looked_at chunk.now.number chunk.now.index (kept self.old).chunks;
             })) }
     {
-        match self.chunks.look(chunk.number, chunk.index) {
-            Some(bytes) => part(bytes, (from % CHUNK as u64) as usize, len),
-            None => unreachable!(),
-        }
+        let bytes = self.table.lend(chunk.number, chunk.index);
+        part(bytes, (from % CHUNK as u64) as usize, len)
     }
 
     // A part of what of the body of the object at a place is not on the disk.
@@ -253,6 +229,6 @@ impl Handles {
         ensures { IfSome (object_kept_at (kept self.now) place)
             (λ x. result.now ≡ rest_part x.entry from len) }
     {
-        unwritten_part(self.object_at(place), from, len)
+        unwritten_part(self.table.object_at(place), from, len)
     }
 }

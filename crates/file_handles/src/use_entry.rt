@@ -20,8 +20,9 @@ use std::alloc::Global;
 impl Handles {
     ghost use Rattle.file_handles.specs.Cache.{cache};
     ghost use Rattle.file_handles.specs.Carries.{CarriesOutAt};
-    ghost use Rattle.file_handles.specs.Kept.{kept, object_at as object_kept_at};
-    ghost use Rattle.file_handles.specs.Refuses.{ChecksNoSlot, HasAt, Passes, Refuses};
+    ghost use Rattle.handle_table.specs.Kept.{object_at as object_kept_at};
+    ghost use Rattle.file_handles.specs.Kept.{kept};
+    ghost use Rattle.handle_table.specs.Refuses.{ChecksNoSlot, HasAt, Passes, Refuses};
     ghost use Rattle.file_handles.specs.Stands.{RepresentsSome};
 
     // The place of the object of a slot.
@@ -33,7 +34,7 @@ impl Handles {
         ensures object { IfOk result (λ place.
             IsSomeAnd (object_kept_at (kept self.now) place) (HasAt (kept self.now) slot place)) }
     {
-        let used = self.live_use(slot)?;
+        let used = self.table.live_use(slot)?;
         Ok(used.place)
     }
 

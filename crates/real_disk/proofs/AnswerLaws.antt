@@ -4,14 +4,14 @@ use Rattle.std.specs.BTreeSet.{btree_set_len}
 use Rattle.real_disk.specs.declared.folder.Folder.{Folder}
 use Rattle.real_disk.specs.declared.real_disk.RealDisk.{RealDisk}
 use Rattle.real_disk.specs.Earlier.{IsSynced}
-use Rattle.real_disk.specs.Folders.{NoneLeft}
+use Rattle.pending_syncs.specs.Folders.{NoneLeft}
 use Rattle.real_disk.specs.Settled.{IsAllSynced}
 use Rattle.real_disk.specs.Pending.{NothingPending}
 use Rattle.disk_theory.specs.declared.place.Place.{Place}
-use Rattle.real_disk.specs.declared.machine.Machine.{Ghosts}
-use Rattle.real_disk.specs.Changes.{IsMoved, IsRemoved, MovesKept}
+use Rattle.machine_files.specs.declared.machine.Machine.{Ghosts}
+use Rattle.real_disk.specs.Changes.{IsMoved, IsRemoved}
 use Rattle.real_disk.specs.Handed.{RemovesAt, RenamesTo}
-use Rattle.real_disk.specs.Kept.{opened_at}
+use Rattle.pending_syncs.specs.Kept.{opened_at, MovesKept}
 
 pub synced_answer : {T E F R File Dir : Type 0} (answer : Result T E) (outcome : Result T F) (disk : RealDisk R File Dir) (folder : Folder R File Dir)
     → IfOk answer (λ value. outcome ≡ Ok value) → disk.folder ≡ folder

@@ -1,24 +1,12 @@
 -- Which files are kept open after a call that makes, moves or removes one.
-use Rattle.std.specs.Prelude.{◌≡◌, ◌⊎◌, ℕ, List, Some, None, false, string_bytes}
-use Rattle.std.specs.BTreeMap.{is_at}
+use Rattle.std.specs.Prelude.{◌≡◌, ℕ, List, Some, string_bytes}
 use Rattle.disk_theory.specs.declared.place.Place.{Place}
-use Rattle.disk_theory.specs.contracts.place.PlaceOrd.TheImpl as place_ord
-use Rattle.real_disk.specs.Kept.{opened_at, Closes, IsIdle}
-use Rattle.real_disk.specs.Paths.{IsPathOf}
-use Rattle.real_disk.specs.declared.kept.Kept.{Kept}
-use Rattle.real_disk.specs.declared.kept.Opened.{Opened}
-use Rattle.real_disk.specs.declared.machine.Machine.{Ghosts}
+use Rattle.pending_syncs.specs.Kept.{opened_at}
+use Rattle.folder_paths.specs.Paths.{IsPathOf}
+use Rattle.pending_syncs.specs.declared.kept.Kept.{Kept}
+use Rattle.pending_syncs.specs.declared.kept.Opened.{Opened}
+use Rattle.machine_files.specs.declared.machine.Machine.{Ghosts}
 use Rattle.real_disk.specs.declared.tree.Tree.{Tree}
-
--- what was kept of the place stays, or none is kept any more
-abbrev pub StaysOrGoes : {F : Type 0} → Place → Kept F → Kept F → Type 0
-StaysOrGoes place before now = (opened_at now place ≡ opened_at before place) ⊎ (opened_at now place ≡ None)
-
--- what was kept of the first place is kept of the second, or closed, and nothing else is kept of either
-pub record MovesKept {F : Type 0} (from to : Place) (before now : Kept F) : Type 0 where
-  pub moved : (opened_at now to ≡ opened_at before from) ⊎ (opened_at now to ≡ None)
-  pub left : is_at (place_ord.ghosts.cmp to) from ≡ false → opened_at now from ≡ None
-  pub others : (other : Place) → is_at (place_ord.ghosts.cmp from) other ≡ false → is_at (place_ord.ghosts.cmp to) other ≡ false → Closes IsIdle other before now
 
 module _ {R File Dir : Type 0} (M : Ghosts R File Dir) (tree : Tree R File Dir) where
   -- the path of the place

@@ -1,10 +1,10 @@
 -- Which files a folder of the machine keeps open after a call, and which file of the machine that call used.
 use Rattle.std.specs.Prelude.{◌≡◌, ℕ, List, Option, None}
 use Rattle.disk_theory.specs.declared.place.Place.{Place}
-use Rattle.real_disk.specs.Changes.{IsMoved, IsRemoved, KeepsMade, MovesKept, StaysOrGoes}
-use Rattle.real_disk.specs.Kept.{opened_at, ClosesElsewhere, IsIdle, IsSettled, SameElsewhere, SameFiles}
+use Rattle.real_disk.specs.Changes.{IsMoved, IsRemoved, KeepsMade}
+use Rattle.pending_syncs.specs.Kept.{opened_at, ClosesElsewhere, IsIdle, IsSettled, MovesKept, SameElsewhere, SameFiles, StaysOrGoes}
 use Rattle.real_disk.specs.Used.{IsToldOf, KeepsOwn, KeepsRead, KeepsWritten, KeepsEnded}
-use Rattle.real_disk.specs.declared.machine.Machine.{Ghosts}
+use Rattle.machine_files.specs.declared.machine.Machine.{Ghosts}
 use Rattle.real_disk.specs.declared.real_disk.RealDisk.{RealDisk}
 
 module _ {R File Dir : Type 0} where

@@ -1,12 +1,12 @@
 -- Which file is read or written as that of a place.
 use Rattle.std.specs.Prelude.{◌≡◌, ◌⊎◌, ℕ, List, Some}
 use Rattle.disk_theory.specs.declared.place.Place.{Place}
-use Rattle.real_disk.specs.Kept.{opened_at}
-use Rattle.real_disk.specs.Paths.{IsPathOf}
-use Rattle.real_disk.specs.declared.kept.Kept.{Kept}
-use Rattle.real_disk.specs.declared.numbers.Folders.{Folders}
-use Rattle.real_disk.specs.declared.kept.Opened.{Opened}
-use Rattle.real_disk.specs.declared.machine.Machine.{Ghosts}
+use Rattle.pending_syncs.specs.Kept.{opened_at}
+use Rattle.folder_paths.specs.Paths.{IsPathOf}
+use Rattle.pending_syncs.specs.declared.kept.Kept.{Kept}
+use Rattle.folder_paths.specs.declared.numbers.Folders.{Folders}
+use Rattle.pending_syncs.specs.declared.kept.Opened.{Opened}
+use Rattle.machine_files.specs.declared.machine.Machine.{Ghosts}
 
 module _ {R File Dir : Type 0} (M : Ghosts R File Dir) (rt : R) (dir : List ℕ) (numbers : Folders) where
   -- the file was opened at the path of the place

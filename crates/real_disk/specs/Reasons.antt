@@ -3,10 +3,10 @@ use Rattle.std.specs.Prelude.{◌≡◌, ◌⊎◌, ℕ, List, ◌∷◌, ◌++�
 use Rattle.std.specs.Fmt.{signed_decimal}
 use Rattle.std.specs.Int.{from_be_bytes, w32}
 use Rattle.std.specs.declared.fs.attrs.Metadata.{Metadata}
-use Rattle.real_disk.specs.Called.{FoundFileAt, HeldAt}
-use Rattle.real_disk.specs.Paths.{IsIn}
-use Rattle.real_disk.specs.declared.machine.Machine.{Ghosts}
-use Rattle.real_disk.specs.declared.machine.Stamp.{Stamp}
+use Rattle.machine_files.specs.Called.{FoundFileAt, HeldAt}
+use Rattle.folder_paths.specs.Paths.{IsIn}
+use Rattle.machine_files.specs.declared.machine.Machine.{Ghosts}
+use Rattle.machine_files.specs.declared.machine.Stamp.{Stamp}
 
 -- which file or folder it is
 abbrev pub identity_text : Stamp → List ℕ

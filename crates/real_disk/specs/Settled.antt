@@ -2,10 +2,10 @@
 use Rattle.std.specs.Prelude.{◌≡◌}
 use Rattle.std.specs.BTreeSet.{btree_set_len}
 use Rattle.real_disk.specs.Earlier.{IsSynced}
-use Rattle.real_disk.specs.Files.{FileNotes}
-use Rattle.real_disk.specs.Folders.{NoneLeft}
+use Rattle.pending_syncs.specs.Files.{FileNotes}
+use Rattle.pending_syncs.specs.Folders.{NoneLeft}
 use Rattle.real_disk.specs.declared.earlier.Earlier.{Earlier}
-use Rattle.real_disk.specs.declared.notes.FolderNotes.{FolderNotes}
+use Rattle.pending_syncs.specs.declared.notes.FolderNotes.{FolderNotes}
 
 -- no change of a file or of a name waits for a sync, and none that an earlier process has left
 pub record IsAllSynced (files : FileNotes) (folders : FolderNotes) (earlier : Earlier)

@@ -1,12 +1,12 @@
 -- Which file of the machine a call on a place used, and what is kept of the place after it.
 use Rattle.std.specs.Prelude.{◌≡◌, ◌⊎◌, ℕ, List, [], Option, Some, None, IfSome, string_bytes}
 use Rattle.disk_theory.specs.declared.place.Place.{Place}
-use Rattle.real_disk.specs.Called.{FoundLengthAt}
-use Rattle.real_disk.specs.Kept.{file_at}
+use Rattle.machine_files.specs.Called.{FoundLengthAt}
+use Rattle.pending_syncs.specs.Kept.{file_at}
 use Rattle.real_disk.specs.Opening.{IsOpenedAt}
-use Rattle.real_disk.specs.Paths.{IsPathOf}
-use Rattle.real_disk.specs.declared.kept.Kept.{Kept}
-use Rattle.real_disk.specs.declared.machine.Machine.{Ghosts}
+use Rattle.folder_paths.specs.Paths.{IsPathOf}
+use Rattle.pending_syncs.specs.declared.kept.Kept.{Kept}
+use Rattle.machine_files.specs.declared.machine.Machine.{Ghosts}
 use Rattle.real_disk.specs.declared.tree.Tree.{Tree}
 
 module _ {R File Dir : Type 0} (M : Ghosts R File Dir) (tree : Tree R File Dir) where

@@ -7,10 +7,9 @@
 ghost use Rattle.std.specs.Prelude.{◌↔◌, IfOk, IsTrue};
 ghost use Rattle.real_disk.specs.Claims.{IsAsked, IsClaimed};
 
-use crate::earlier::is_missing;
-use crate::paths::{
-    Area, CLEAR, DOOMED, ENTRIES, INDEX, LOG, TMP, parent_of, path_in, path_of_area,
-};
+use crate::making::parent_of;
+use folder_paths::{Area, CLEAR, DOOMED, ENTRIES, INDEX, LOG, TMP, path_in, path_of_area};
+use machine_files::is_missing;
 use std::fs::{self, File, TryLockError};
 use std::io::{self, ErrorKind};
 use std::os::unix::fs::MetadataExt;

@@ -6,15 +6,14 @@
 
 ghost use Rattle.std.specs.Prelude.{◌≡◌, ◌↔◌, IfOk, OnOk, IsTrue, codes};
 ghost use Rattle.real_disk.specs.Earlier.{IsKnown, IsSynced};
-ghost use Rattle.real_disk.specs.Called.{FoundFileAt};
+ghost use Rattle.machine_files.specs.Called.{FoundFileAt};
 ghost use Rattle.real_disk.specs.Reasons.{HasReason, HoldsAt, IsFlagClear, WasClosed};
 
-use crate::machine::Machine;
-use crate::paths::{INDEX, LOG, TMP, path_in};
 use crate::standing::Standing;
 use crate::sync_note;
-use crate::tree::{open_regular, read_only, seen_at};
+use folder_paths::{INDEX, LOG, TMP, path_in};
 use index_file::FLAG_AT;
+use machine_files::{Machine, is_missing, open_regular, read_only, seen_at};
 use std::io::{self, ErrorKind};
 
 /// Why no change of an earlier process waits. Only the functions here make it.
@@ -148,17 +147,6 @@ fn is_index_clear<R: Machine + AllocGlobal>(rt: &R, dir: &str) -> io::Result<boo
 {
     let index = path_in(rt, dir, INDEX)?;
     Ok(is_flag_clear(rt, index.as_str())?)
-}
-
-/// Whether nothing stands there.
-pub(crate) fn is_missing<R: Machine>(rt: &R, path: &str) -> io::Result<bool>
-    ensures { IfOk result (λ is. IsTrue is → R.Machine.missing rt.now path.now) }
-{
-    match rt.look_at(path) {
-        Ok(_) => Ok(false),
-        Err(error) if error.kind() == ErrorKind::NotFound => Ok(true),
-        Err(error) => Err(error),
-    }
 }
 
 // A file that ends before its flag does is an error.

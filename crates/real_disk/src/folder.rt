@@ -1,22 +1,22 @@
 //! The folder by its places, and how each call on it begins.
 
 ghost use Rattle.std.specs.Prelude.{◌≡◌, OnOk, OnErr, false, string_bytes};
-ghost use Rattle.real_disk.specs.Numbers.{AreKnown, KeepsNumbers};
+ghost use Rattle.folder_paths.specs.Numbers.{AreKnown, KeepsNumbers};
 ghost use Rattle.real_disk.specs.Roots.{HasSameRoot};
-ghost use Rattle.real_disk.specs.Folders.{NoneLost};
+ghost use Rattle.pending_syncs.specs.Folders.{NoneLost};
 ghost use Rattle.real_disk.specs.Claims.{IsAsked, IsClaimed};
 ghost use Rattle.real_disk.specs.Earlier.{HasLooked, IsKnown, IsSynced};
 ghost use Rattle.real_disk.specs.Reasons.{HasReason};
 
 use crate::claim::{Claim, ask, ask_made};
 use crate::earlier::Earlier;
-use crate::kept::Kept;
-use crate::machine::Machine;
-use crate::paths::Area;
 use crate::sync_note;
 use crate::tree::Tree;
 use cache_base::Name;
 use disk_theory::Place;
+use folder_paths::Area;
+use machine_files::Machine;
+use pending_syncs::Kept;
 use std::alloc::Global;
 use std::collections::BTreeSet;
 use std::fs::File;

@@ -7,25 +7,14 @@
 #![tactic(auto)]
 
 mod claim;
-mod contents;
 mod earlier;
-mod file_notes;
 mod folder;
-mod kept;
-mod laws;
-mod listing;
-mod machine;
 mod making;
-mod notes;
-mod numbers;
-mod open_folders;
-mod paths;
 mod real_disk;
 mod standing;
 mod sync_note;
-mod syncing;
 mod tree;
 
-pub use laws::paths_are_apart;
-pub use machine::Machine;
+pub use folder_paths::paths_are_apart;
+pub use machine_files::Machine;
 pub use real_disk::RealDisk;

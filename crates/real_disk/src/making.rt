@@ -1,11 +1,11 @@
 //! The making of folders.
 
-ghost use Rattle.real_disk.specs.Folders.{NoneLost};
+ghost use Rattle.pending_syncs.specs.Folders.{NoneLost};
 ghost use Rattle.real_disk.specs.Roots.{HasSameRoot};
 
-use crate::machine::Machine;
-use crate::paths::{Area, parent_of, path_of_area};
 use crate::tree::Tree;
+use folder_paths::{Area, path_of_area};
+use machine_files::Machine;
 use std::fs::{self, DirBuilder};
 use std::io::{self, ErrorKind};
 use std::os::unix::fs::DirBuilderExt;
@@ -91,4 +91,13 @@ fn make_folder<R: Machine>(rt: &R, folder: &str) -> io::Result<()> {
 
 fn is_folder<R: Machine>(rt: &R, path: &str) -> bool {
     fs::metadata(rt, path).is_ok_and(|found| found.is_dir())
+}
+
+/// The folder that a path lies in.
+pub(crate) fn parent_of(path: &str) -> &str {
+    match path.rsplit_once('/') {
+        None => ".",
+        Some(("", _)) => "/",
+        Some((parent, _)) => parent,
+    }
 }

@@ -6,10 +6,9 @@ ghost use Rattle.disk_theory.specs.Calls.{no_counts};
 ghost use Rattle.disk_theory.specs.Silent.{nothing, never, never_finite};
 
 use crate::folder::Folder;
-use crate::listing::rising;
-use crate::machine::Machine;
 use cache_base::{Names, Numbers};
 use disk_theory::{Disk, DiskFault, Place};
+use machine_files::{Machine, rising};
 use std::fs::File;
 use std::io::{self, ErrorKind};
 use std::rt::{Clock, Files};

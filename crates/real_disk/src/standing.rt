@@ -1,19 +1,19 @@
 //! The files that stand in the folders of the cache, and the syncing of all of them.
 
 ghost use Rattle.std.specs.Prelude.{◌≡◌, OnOk};
-ghost use Rattle.real_disk.specs.Files.{SyncsPlace};
-ghost use Rattle.real_disk.specs.Numbers.{AreKnown, KeepsNumbers};
+ghost use Rattle.pending_syncs.specs.Files.{SyncsPlace};
+ghost use Rattle.folder_paths.specs.Numbers.{AreKnown, KeepsNumbers};
 
-use crate::listing::{Found, read_names};
-use crate::machine::Machine;
-use crate::notes::sync_folder;
-use crate::numbers::Folders;
-use crate::paths::{Area, path_of, path_of_area};
-use crate::syncing::{AllSynced, PermittedSynced, is_permitted, sync_listed, sync_permitted};
-use crate::tree::{Tree, open_regular, read_only};
+use crate::tree::Tree;
 use cache_base::{Name, number};
 use disk_theory::Place;
 use entry_name::read_text;
+use folder_paths::{Area, Folders, path_of, path_of_area};
+use machine_files::{
+    AllSynced, Found, Machine, PermittedSynced, is_permitted, open_regular, read_names, read_only,
+    sync_listed, sync_permitted,
+};
+use pending_syncs::sync_folder;
 use std::alloc::Global;
 use std::collections::BTreeSet;
 use std::fs;

@@ -9,9 +9,8 @@ ghost use Rattle.std.specs.Prelude.{◌≡◌, ◌++◌, ◌∷◌, IfOk, IsTrue
 ghost use Rattle.std.specs.Option.{IfSome};
 ghost use Rattle.real_disk.specs.Reasons.{HasStampAt, IsNoteAt, NoteIsLeft, change_text, identity_text, note_text};
 
-use crate::machine::{Machine, Stamp};
-use crate::paths::{Area, path_in, path_of_area};
-use crate::tree::{open_regular, read_only};
+use folder_paths::{Area, path_in, path_of_area};
+use machine_files::{Machine, Stamp, open_regular, read_only};
 use std::alloc::{AllocError, Global};
 use std::io::{self, ErrorKind, Write};
 

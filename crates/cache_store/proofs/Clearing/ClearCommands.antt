@@ -9,14 +9,15 @@ use Rattle.cache_store.specs.Open.{KeepsWhere, Tells}
 use Rattle.cache_store.specs.Performing.{Achieves, AchievesWhatIsDone, GoesBy, SaysThere}
 use Rattle.cache_store.specs.Session.{Session}
 use Rattle.cache_store.specs.StoppedClearing.{ClearsUnderMark}
-use Rattle.cache_store.specs.declared.answered.Answered.{Answered}
-use Rattle.cache_store.specs.declared.answered.Answered.TheVariants as answered
+use Rattle.cache_replies.specs.declared.answered.Answered.{Answered}
+use Rattle.cache_replies.specs.declared.answered.Answered.TheVariants as answered
 use Rattle.cache_store.specs.declared.fault.StoreFault.{StoreFault}
-use Rattle.cache_store.specs.declared.memory_index.MemoryIndex.{MemoryIndex}
+use Rattle.memory_index.specs.declared.memory_index.MemoryIndex.{MemoryIndex}
 use Rattle.cache_store.proofs.Records.IndexAchieves.{comes_from, fails_sparing, session_at, spares_same}
 use Rattle.cache_store.proofs.Records.LearntAchieves.{holds_on}
 use Rattle.cache_store.proofs.Clearing.MarkKept.{amid_ending_safe, ended_goes_on, ended_stands, ending_index}
-use Rattle.cache_store.proofs.Records.RecordsAtEnd.{goes_by, some_at_end}
+use Rattle.cache_store.proofs.Records.GoesBy.{goes_by}
+use Rattle.memory_index.proofs.RecordsAtEnd.{some_at_end}
 use Rattle.cache_store.proofs.Spared.{unmarked_in}
 use Rattle.cache_theory.specs.Checks.{checks}
 use Rattle.cache_theory.specs.Command.{Command}
@@ -35,7 +36,7 @@ use Rattle.disk_theory.specs.State.{State, standing}
 use Rattle.disk_theory.specs.declared.place.Place.TheVariants.{Clear}
 use Rattle.entry_key.specs.Tags.{value_hash}
 use Rattle.file_handles.specs.Cache.{cache_at}
-use Rattle.file_handles.specs.Kept.{Kept}
+use Rattle.handle_table.specs.Kept.{Kept}
 use Rattle.file_handles.specs.Stands.{KeepsWhere as CacheKeepsWhere}
 use Rattle.file_handles.proofs.Begun.{begun_in}
 use Rattle.file_handles.proofs.Where.{stand_for}

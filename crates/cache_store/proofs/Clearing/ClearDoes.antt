@@ -6,7 +6,8 @@ use Rattle.std.proofs.lemmas.Bool.{eq-eqb, eqb-true, not-false, or_cases, or_lef
 use Rattle.std.proofs.lemmas.List.Elements.{filter_passes, recursion_from_All}
 use Rattle.cache_base.specs.declared.name.Name.{Name}
 use Rattle.cache_store.specs.Clearing.{AreCleared, ClearsByRecords, ClearsNames, HoldsNames, IsHeld, LeavesUncleared, is_used_or_stands}
-use Rattle.cache_store.specs.Evicting.{DoomsAll, Forgets, has_file}
+use Rattle.cache_store.specs.Evicting.{DoomsAll, has_file}
+use Rattle.memory_index.specs.Forgetting.{Forgets}
 use Rattle.cache_store.specs.Kept.{Matches}
 use Rattle.cache_store.specs.Open.{KeepsWhere, Represents}
 use Rattle.cache_store.specs.Performing.{GoesBy}
@@ -14,7 +15,7 @@ use Rattle.cache_store.specs.Session.{Session}
 use Rattle.cache_store.specs.StoppedClearing.{ClearsUnderMark, IsLeftByClearing}
 use Rattle.cache_store.specs.StoppedClearing.IsLeftByClearing.{Unbegun}
 use Rattle.cache_store.specs.declared.fault.StoreFault.{StoreFault}
-use Rattle.cache_store.specs.declared.memory_index.MemoryIndex.{MemoryIndex}
+use Rattle.memory_index.specs.declared.memory_index.MemoryIndex.{MemoryIndex}
 use Rattle.cache_store.proofs.Evicting.EvictDoes.{touched_first}
 use Rattle.cache_store.proofs.Evicting.Forgotten.{forgotten_tells}
 use Rattle.cache_store.proofs.Records.IndexAchieves.{begun_spared, goes_on_telling, session_at, spares_same}
@@ -24,7 +25,8 @@ use Rattle.cache_store.proofs.Clearing.StoppedImages.{stopped_dooming, stopped_e
 use Rattle.cache_store.proofs.Clearing.MarkKept.{amid_ending_safe, amid_storing_safe, ended_goes_on, ended_keeps, ended_stands, ending_index, mark_index, mark_kept}
 use Rattle.cache_store.proofs.Clearing.NamesDoomed.{not_in_use}
 use Rattle.cache_store.proofs.Clearing.NothingDoomed.{IsBare, those_standing}
-use Rattle.cache_store.proofs.Records.RecordsAtEnd.{goes_by, some_at_end, sorted_at_end}
+use Rattle.cache_store.proofs.Records.GoesBy.{goes_by}
+use Rattle.memory_index.proofs.RecordsAtEnd.{some_at_end, sorted_at_end}
 use Rattle.cache_store.proofs.Spared.{ended_in}
 use Rattle.cache_store.proofs.Evicting.VictimsApart.{all_filtered, filtered_distinct}
 use Rattle.cache_theory.specs.Checks.{checks}
@@ -51,11 +53,11 @@ use Rattle.disk_theory.specs.declared.place.Place.TheVariants.{Clear, Doomed, En
 use Rattle.disk_theory.specs.declared.disk.DiskFault.{DiskFault}
 use Rattle.file_handles.specs.Cache.{cache_at}
 use Rattle.file_handles.specs.Dooming.{TakesEntries}
-use Rattle.file_handles.specs.Kept.{Kept}
+use Rattle.handle_table.specs.Kept.{Kept}
 use Rattle.file_handles.specs.Stands.{KeepsWhere as CacheKeepsWhere, ReachesHistory, Represents as CacheRepresents, RepresentsSome}
-use Rattle.file_handles.specs.Users.{users_of}
+use Rattle.handle_table.specs.Users.{users_of}
 use Rattle.file_handles.proofs.Begun.{begun_in}
-use Rattle.file_handles.proofs.Finding.User.{no_one}
+use Rattle.handle_table.proofs.User.{no_one}
 use Rattle.file_handles.proofs.Where.{bare_in, stand_for}
 use Rattle.index_theory.specs.Ever.{entries_on}
 use Rattle.index_record.specs.declared.record.IndexRecord.{IndexRecord}

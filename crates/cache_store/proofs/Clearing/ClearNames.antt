@@ -8,9 +8,9 @@ use Rattle.cache_theory.specs.Machine.{Machine}
 use Rattle.cache_theory.specs.Proper.{IsProper}
 use Rattle.cache_theory.specs.Table.{name_of}
 use Rattle.context_clear.specs.Covered.{covers_record}
-use Rattle.file_handles.specs.Kept.{Kept}
-use Rattle.file_handles.specs.Stands.{HandlesStand}
-use Rattle.file_handles.specs.Users.{AreCoveredNames}
+use Rattle.handle_table.specs.Kept.{Kept}
+use Rattle.handle_table.specs.Standing.{HandlesStand}
+use Rattle.handle_table.specs.Users.{AreCoveredNames}
 use Rattle.index_map.specs.Known.{IsKnown, Known}
 use Rattle.index_record.specs.declared.record.IndexRecord.{IndexRecord}
 use Rattle.record_list.specs.Lists.{IsByName}

@@ -6,14 +6,14 @@ use Rattle.cache_base.specs.declared.name.Name.{Name}
 use Rattle.cache_store.specs.Clearing.{ClearingLeavesNone}
 use Rattle.cache_store.specs.Open.{KeepsTo, Represents, StartsOn, Tells}
 use Rattle.cache_store.specs.Performing.{HadEffect, Performs}
-use Rattle.cache_store.specs.Records.{AreAtEnd}
+use Rattle.memory_index.specs.Records.{AreAtEnd}
 use Rattle.cache_store.specs.Session.{Session, cache_of}
 use Rattle.cache_store.specs.StoppedClearing.{ClearsUnderMark, CouldBeBefore, FindsNoneOrAll, HasNoneOf, IsLeftByClearing, IsNoneOrAll, LeavesNoMark, ResumedClearingIsNoneOrAll, StoppedClearingIsNoneOrAll}
 use Rattle.cache_store.specs.StoppedClearing.FindsNoneOrAll.{AllAsBefore, NoneFound}
 use Rattle.cache_store.specs.StoppedClearing.IsLeftByClearing.{Marked, Unbegun, Whole}
 use Rattle.cache_store.specs.StoppedClearing.IsNoneOrAll.{AsBefore, MarkStands, NoneIsLeft}
 use Rattle.cache_store.specs.declared.fault.StoreFault.{StoreFault}
-use Rattle.cache_store.specs.declared.outcome.Verdict.{Verdict}
+use Rattle.cache_replies.specs.declared.verdict.Verdict.{Verdict}
 use Rattle.cache_theory.specs.Command.{Command}
 use Rattle.cache_theory.specs.Command.Command.{ClearNames, ClearOrigin, Resume}
 use Rattle.cache_theory.specs.Covers.{cleared, cleared_by, covered_by, covers, resumed}
@@ -34,7 +34,7 @@ use Rattle.context_clear.proofs.MarkLaws.{mark_read}
 use Rattle.cache_store.proofs.Clearing.ClearCommands.{clear_next_is}
 use Rattle.cache_store.proofs.Evicting.EvictDoes.{among_all}
 use Rattle.cache_store.proofs.Clearing.OriginHash.{value_hash_small}
-use Rattle.cache_store.proofs.Records.RecordsAtEnd.{goes_by}
+use Rattle.cache_store.proofs.Records.GoesBy.{goes_by}
 use Rattle.cache_store.proofs.Performing.Represented.{represents}
 use Rattle.disk_theory.proofs.Images.{only_now}
 use Rattle.disk_theory.specs.Image.{Files, IsImage}

@@ -8,8 +8,8 @@ use Rattle.cache_base.specs.Names.{has_name}
 use Rattle.cache_base.specs.declared.name.Name.{Name}
 use Rattle.cache_store.specs.Clearing.{is_used_or_stands, is_user_or_among}
 use Rattle.cache_store.specs.Evicting.{has_file}
-use Rattle.file_handles.specs.Kept.{Kept}
-use Rattle.file_handles.specs.Users.{users_of}
+use Rattle.handle_table.specs.Kept.{Kept}
+use Rattle.handle_table.specs.Users.{users_of}
 use Rattle.disk_theory.specs.Listing.{AreEntries}
 use Rattle.disk_theory.specs.State.{State, standing}
 use Rattle.disk_theory.specs.declared.place.Place.TheVariants.{Entry}

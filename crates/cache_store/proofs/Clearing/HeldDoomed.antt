@@ -20,16 +20,17 @@ use Rattle.disk_theory.specs.declared.disk.DiskFault.{DiskFault}
 use Rattle.disk_theory.specs.declared.disk.DiskFault.TheVariants as disk
 use Rattle.file_handles.specs.Cache.{Cache}
 use Rattle.file_handles.specs.Dooming.{DoomsUnder}
-use Rattle.file_handles.specs.Finding.{is_user}
-use Rattle.file_handles.specs.Kept.{Kept}
-use Rattle.file_handles.specs.Stands.{HandlesStand, Represents}
-use Rattle.file_handles.specs.Users.{users_at, users_of}
+use Rattle.handle_table.specs.Finding.{is_user}
+use Rattle.handle_table.specs.Kept.{Kept}
+use Rattle.handle_table.specs.Standing.{HandlesStand}
+use Rattle.file_handles.specs.Stands.{Represents}
+use Rattle.handle_table.specs.Users.{users_at, users_of}
 use Rattle.file_handles.specs.declared.fault.Effect.{Effect}
 use Rattle.cache_theory.specs.declared.refusal.Refusal.{Refusal}
 use Rattle.file_handles.specs.Answers.{fault_ending as handle_fault_ending}
 use Rattle.file_handles.specs.declared.fault.HandleFault.{HandleFault}
 use Rattle.file_handles.specs.declared.fault.HandleFault.TheVariants as handle
-use Rattle.file_handles.proofs.Finding.User.{user_is_used}
+use Rattle.handle_table.proofs.User.{user_is_used}
 use Rattle.file_handles.proofs.Where.{bare_in, stand_for}
 use Rattle.record_list.specs.Lists.{same_name}
 

@@ -10,7 +10,7 @@ use Rattle.cache_check.proofs.FoundExactly.{has_key}
 use Rattle.cache_theory.specs.Covers.{as_table, joined_names}
 use Rattle.cache_theory.specs.Table.{IsTable, get}
 use Rattle.cache_theory.proofs.TableLaws.{get-insert, insert_is_table}
-use Rattle.file_handles.proofs.Finding.OpenNames.{names_of_table}
+use Rattle.handle_table.proofs.OpenNames.{names_of_table}
 
 -- one name more in a set, after those that were in it
 with_one : (b old had : Bool) → cond b true (old || had) ≡ (old || (had || b))

@@ -25,7 +25,7 @@ use Rattle.disk_theory.proofs.Places.{is_same-refl}
 use Rattle.disk_theory.proofs.Sound.{found, no_writes, sound_added, sound_removed, sound_settled}
 use Rattle.disk_theory.proofs.Standing.{added_puts, removed_puts, settled_same}
 use Rattle.file_handles.specs.Cache.{cache_at}
-use Rattle.file_handles.specs.Kept.{Kept}
+use Rattle.handle_table.specs.Kept.{Kept}
 use Rattle.file_handles.specs.Stands.{KeepsWhere, Stands}
 use Rattle.cache_store.proofs.Sessions.Closed.{settled_quiet}
 use Rattle.cache_store.proofs.Performing.PerformStands.{settled_in, synced_in}

@@ -19,11 +19,11 @@ use Rattle.disk_theory.specs.declared.disk.DiskFault.{DiskFault}
 use Rattle.disk_theory.specs.declared.place.Place.TheVariants.{Entry}
 use Rattle.file_handles.specs.Cache.{Cache}
 use Rattle.file_handles.specs.Dooming.{DoomsUnder}
-use Rattle.file_handles.specs.Kept.{Kept}
+use Rattle.handle_table.specs.Kept.{Kept}
 use Rattle.file_handles.specs.Stands.{Represents}
-use Rattle.file_handles.specs.Users.{users_of}
-use Rattle.file_handles.proofs.Dooming.SlotUsers.{unused_none}
-use Rattle.file_handles.proofs.Finding.User.{no_user_there}
+use Rattle.handle_table.specs.Users.{users_of}
+use Rattle.handle_table.proofs.SlotUsers.{unused_none}
+use Rattle.handle_table.proofs.User.{no_user_there}
 use Rattle.file_handles.proofs.Where.{bare_in, stand_for}
 use Rattle.record_list.specs.Lists.{same_name}
 use Rattle.record_list.proofs.NameLaws.{same_itself}

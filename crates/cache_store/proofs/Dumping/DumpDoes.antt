@@ -8,23 +8,24 @@ use Rattle.cache_check.specs.Checks.{files_of}
 use Rattle.cache_check.proofs.Tables.{is_table_of, only_one_table}
 use Rattle.cache_export.specs.Dump.{dump_bytes, head}
 use Rattle.cache_export.specs.Dumped.{dumped}
-use Rattle.cache_store.specs.Answering.{AnswersTo, outcome_of}
+use Rattle.cache_store.specs.Answering.{AnswersTo}
+use Rattle.cache_replies.specs.Answers.{outcome_of}
 use Rattle.cache_store.specs.Dumping.{items_from}
 use Rattle.cache_store.specs.Faulting.{SendsFrontFor, reply_front}
 use Rattle.cache_store.specs.Kept.{HoldsIndex}
 use Rattle.cache_store.specs.Open.{KeepsWhere}
 use Rattle.cache_store.specs.Performing.{DoesFor}
-use Rattle.cache_store.specs.Said.{Saying}
-use Rattle.cache_store.specs.Saying.{CutsAll, CutsIn, SaysMore, SendsAll, StopsIn}
-use Rattle.cache_store.specs.declared.answered.Answered.{Answered}
-use Rattle.cache_store.specs.declared.answered.Answered.TheVariants as answered
+use Rattle.cache_replies.specs.Said.{Saying}
+use Rattle.cache_replies.specs.Saying.{CutsAll, CutsIn, SaysMore, SendsAll, StopsIn}
+use Rattle.cache_replies.specs.declared.answered.Answered.{Answered}
+use Rattle.cache_replies.specs.declared.answered.Answered.TheVariants as answered
 use Rattle.cache_store.specs.declared.fault.StoreFault.{StoreFault}
 use Rattle.cache_store.specs.declared.fault.StoreFault.TheVariants as fault
-use Rattle.cache_store.specs.declared.memory_index.MemoryIndex.{MemoryIndex}
+use Rattle.memory_index.specs.declared.memory_index.MemoryIndex.{MemoryIndex}
 use Rattle.cache_store.proofs.Records.IndexAchieves.{RestsWith, begun_spared, comes_from, goes_on_telling, holds_same_base, rests_next, rests_tells, session_at, spares_same}
 use Rattle.cache_store.proofs.Records.ListDoes.{Finishes}
 use Rattle.cache_store.proofs.Saying.SaidWhole.{fails_unsaid, if_err, on_ok, whole_cut, whole_said}
-use Rattle.cache_store.proofs.Saying.SayingLaws.{cuts_front, cuts_then, said_nothing, says_then, stops_cut}
+use Rattle.cache_replies.proofs.SayingLaws.{cuts_front, cuts_then, said_nothing, says_then, stops_cut}
 use Rattle.cache_theory.specs.Checks.{checks}
 use Rattle.cache_theory.specs.Command.Command.{Dump}
 use Rattle.cache_theory.specs.Command.Reply.{Dumped}
@@ -35,7 +36,7 @@ use Rattle.cache_theory.specs.Text.{reply_text}
 use Rattle.disk_theory.specs.Listing.{AreEntries}
 use Rattle.disk_theory.specs.State.{State}
 use Rattle.file_handles.specs.Cache.{Cache, cache_at}
-use Rattle.file_handles.specs.Kept.{Kept}
+use Rattle.handle_table.specs.Kept.{Kept}
 use Rattle.file_handles.specs.Stands.{Represents as CacheRepresents}
 use Rattle.file_handles.proofs.Where.{stand_for}
 use Rattle.index_theory.specs.Ever.{entries_on}

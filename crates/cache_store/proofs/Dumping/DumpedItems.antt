@@ -12,9 +12,9 @@ use Rattle.cache_export.specs.declared.limits.TheConstants.{DUMP_MAX}
 use Rattle.cache_export.proofs.FrontLaws.{number_size}
 use Rattle.cache_store.specs.Dumping.{TakesTurn, Turn, adds_nothing, item_length, item_with, items_from, may_dump_as, turn_at, turn_for, turn_of}
 use Rattle.cache_store.specs.Prefix.{range_of}
-use Rattle.cache_store.specs.Said.{Said, Saying}
-use Rattle.cache_store.specs.Saying.{SaysMore, StopsIn}
-use Rattle.cache_store.proofs.Saying.SayingLaws.{says_then, stops_front, stops_then}
+use Rattle.cache_replies.specs.Said.{Said, Saying}
+use Rattle.cache_replies.specs.Saying.{SaysMore, StopsIn}
+use Rattle.cache_replies.proofs.SayingLaws.{says_then, stops_front, stops_then}
 use Rattle.cache_theory.proofs.Versions.{is_key}
 use Rattle.cache_theory.specs.Table.{Table}
 use Rattle.disk_theory.specs.Image.{Files}

@@ -5,25 +5,28 @@ use Rattle.std.specs.Prelude.{None, OnOk}
 use Rattle.std.specs.Str.{bytes_eq}
 use Rattle.std.proofs.lemmas.Bool.{or_cases, or_left, or_right}
 use Rattle.cache_base.specs.declared.name.Name.{Name}
-use Rattle.cache_store.specs.Answering.{AnswersTo, outcome_of}
+use Rattle.cache_store.specs.Answering.{AnswersTo}
+use Rattle.cache_replies.specs.Answers.{outcome_of}
 use Rattle.cache_store.specs.DoneFor.{IsDoneBy}
-use Rattle.cache_store.specs.Evicting.{AreVictims, DoomsAll, Forgets, LeavesOthers, has_file}
+use Rattle.cache_store.specs.Evicting.{AreVictims, DoomsAll, LeavesOthers, has_file}
+use Rattle.memory_index.specs.Forgetting.{Forgets}
 use Rattle.cache_store.specs.Open.{KeepsWhere, Tells}
 use Rattle.cache_store.specs.Performing.{GoesBy, SaysThere, DoesCommand, DoesWhatIsDone, HadEffect}
-use Rattle.cache_store.specs.Said.{Saying}
-use Rattle.cache_store.specs.Saying.{CutsIn, SaysMore}
-use Rattle.cache_store.specs.declared.answered.Answered.{Answered}
-use Rattle.cache_store.specs.declared.answered.Answered.TheVariants as answered
+use Rattle.cache_replies.specs.Said.{Saying}
+use Rattle.cache_replies.specs.Saying.{CutsIn, SaysMore}
+use Rattle.cache_replies.specs.declared.answered.Answered.{Answered}
+use Rattle.cache_replies.specs.declared.answered.Answered.TheVariants as answered
 use Rattle.cache_store.specs.declared.fault.StoreFault.{StoreFault}
 use Rattle.cache_store.specs.declared.fault.StoreFault.TheVariants as fault
-use Rattle.cache_store.specs.declared.memory_index.MemoryIndex.{MemoryIndex}
+use Rattle.memory_index.specs.declared.memory_index.MemoryIndex.{MemoryIndex}
 use Rattle.cache_store.proofs.Evicting.Forgotten.{forgotten_tells}
 use Rattle.cache_store.proofs.Records.IndexAchieves.{begun_spared, comes_from, goes_on_telling, session_at, spares_same}
 use Rattle.cache_store.proofs.Records.LearntAchieves.{holds_on}
 use Rattle.cache_store.proofs.Records.ListDoes.{Finishes}
 use Rattle.cache_store.proofs.Clearing.NamesDoomed.{not_in_use, shelf_there}
 use Rattle.cache_store.proofs.Clearing.NothingDoomed.{IsBare, those_standing}
-use Rattle.cache_store.proofs.Records.RecordsAtEnd.{goes_by, some_at_end, sorted_at_end}
+use Rattle.cache_store.proofs.Records.GoesBy.{goes_by}
+use Rattle.memory_index.proofs.RecordsAtEnd.{some_at_end, sorted_at_end}
 use Rattle.cache_store.proofs.Saying.SaidWhole.{fails_unsaid, if_err, on_ok, whole_cut, whole_said}
 use Rattle.cache_store.proofs.Spared.{rested_in}
 use Rattle.cache_store.proofs.Evicting.VictimsApart.{all_filtered, victims_by_name, victims_unused}
@@ -46,11 +49,11 @@ use Rattle.disk_theory.specs.State.{State}
 use Rattle.disk_theory.specs.declared.disk.DiskFault.{DiskFault}
 use Rattle.evictor.specs.Evict.{victims}
 use Rattle.file_handles.specs.Cache.{cache_at}
-use Rattle.file_handles.specs.Kept.{Kept}
+use Rattle.handle_table.specs.Kept.{Kept}
 use Rattle.file_handles.specs.Stands.{KeepsWhere as CacheKeepsWhere, ReachesHistory, Represents as CacheRepresents}
-use Rattle.file_handles.specs.Users.{users_of}
+use Rattle.handle_table.specs.Users.{users_of}
 use Rattle.file_handles.proofs.Begun.{begun_in}
-use Rattle.file_handles.proofs.Finding.User.{no_one}
+use Rattle.handle_table.proofs.User.{no_one}
 use Rattle.file_handles.proofs.Where.{stand_for}
 use Rattle.index_map.proofs.Sorted.{sorted, sorted_by_name}
 use Rattle.index_record.specs.declared.record.IndexRecord.{IndexRecord}

@@ -15,9 +15,9 @@ use Rattle.evictor.proofs.AnyOrder.{same_in_any_order}
 use Rattle.evictor.proofs.Prefix.{IsPrefix, split}
 use Rattle.evictor.proofs.Sorting.{moved_in_order}
 use Rattle.file_handles.specs.Cache.{cache_at}
-use Rattle.file_handles.specs.Kept.{Kept}
+use Rattle.handle_table.specs.Kept.{Kept}
 use Rattle.file_handles.specs.Stands.{RepresentsSome}
-use Rattle.file_handles.specs.Users.{AreOpenNames, users_of}
+use Rattle.handle_table.specs.Users.{AreOpenNames, users_of}
 use Rattle.index_map.specs.Known.{IsKnown, Known}
 use Rattle.index_map.proofs.Sorted.{sorted, sorted_by_name}
 use Rattle.index_record.specs.Record.{is_pinned}

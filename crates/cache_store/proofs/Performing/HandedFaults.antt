@@ -7,8 +7,8 @@ use Rattle.cache_store.specs.Faults.{of_sink}
 use Rattle.cache_store.specs.declared.fault.StoreFault.{StoreFault}
 use Rattle.cache_store.specs.declared.fault.StoreFault.TheVariants as fault
 use Rattle.std.specs.declared.option.Option.{Option}
-use Rattle.cache_store.specs.Said.{Saying}
-use Rattle.cache_store.specs.Saying.{SaysMore, SendsFront}
+use Rattle.cache_replies.specs.Said.{Saying}
+use Rattle.cache_replies.specs.Saying.{SaysMore, SendsFront}
 
 -- a fault of the sink is none of the disk
 pub sink_not_disk : {T : Type 0} (r : Result T StoreFault) (f : SinkFault) → IsErrAnd r (λ e. e ≡ of_sink f) → r ≡ Err fault.Disk → ⊥

@@ -12,7 +12,7 @@ use Rattle.cache_theory.specs.Step.{effect, state_reply, step}
 use Rattle.cache_theory.proofs.Proper.{stays_proper}
 use Rattle.disk_theory.specs.State.{State}
 use Rattle.file_handles.specs.Cache.{cache_at}
-use Rattle.file_handles.specs.Kept.{Kept}
+use Rattle.handle_table.specs.Kept.{Kept}
 use Rattle.file_handles.specs.Stands.{KeepsWhere as CacheKeepsWhere}
 use Rattle.file_handles.proofs.Begun.{begun_in}
 use Rattle.index_update.specs.Rest.{name_bytes}
@@ -21,18 +21,18 @@ use Rattle.cache_store.specs.DoneFor.{IsDoneBy}
 use Rattle.cache_store.specs.Open.{KeepsWhere, Tells}
 use Rattle.cache_store.specs.Performing.{GoesBy, SaysThere, Achieves, AchievesFor, AchievesWhatIsDone, ComesToTell, DoesCommand, DoesFor, DoesWhatIsDone}
 use Rattle.cache_store.specs.Records.{AnswersHas, has_record}
-use Rattle.cache_store.specs.Replied.{reply_of}
-use Rattle.cache_store.specs.Said.{Saying}
+use Rattle.cache_replies.specs.Answers.{reply_of}
+use Rattle.cache_replies.specs.Said.{Saying}
 use Rattle.cache_store.specs.Session.{Open, Session, cache_of}
-use Rattle.cache_store.specs.declared.answered.Answered.{Answered}
-use Rattle.cache_store.specs.declared.answered.Answered.TheVariants as answered
+use Rattle.cache_replies.specs.declared.answered.Answered.{Answered}
+use Rattle.cache_replies.specs.declared.answered.Answered.TheVariants as answered
 use Rattle.cache_store.specs.declared.fault.StoreFault.{StoreFault}
 use Rattle.cache_store.specs.declared.fault.StoreFault.TheVariants as fault
 use Rattle.cache_store.proofs.Records.HasEntry.{has_is_right}
 use Rattle.cache_store.proofs.Performing.PerformStands.{at_moment, moment_in}
 use Rattle.cache_store.proofs.Performing.PerformSteps.{IsReading, reading_acked, reading_next}
 use Rattle.cache_store.proofs.Performing.Represented.{represented}
-use Rattle.cache_store.proofs.Saying.SaidMore.{when_ok}
+use Rattle.cache_replies.proofs.SaidMore.{when_ok}
 use Rattle.cache_store.proofs.Saying.Unsaid.{unsaid_answers, unsaid_by, unsaid_effect, unsaid_had}
 
 -- for a history, a command of whose reply nothing is said yet does what it achieves

@@ -5,7 +5,7 @@ use Rattle.cache_theory.specs.Step.{step}
 use Rattle.cache_store.specs.Open.{IsOpen, LeavesOpen}
 use Rattle.cache_store.specs.Performing.{PerformsFor}
 use Rattle.cache_store.specs.Session.{Session}
-use Rattle.cache_store.specs.declared.outcome.Verdict.{Verdict}
+use Rattle.cache_replies.specs.declared.verdict.Verdict.{Verdict}
 use Rattle.cache_store.specs.declared.fault.StoreFault.{StoreFault}
 use Rattle.cache_store.specs.declared.fault.StoreFault.TheVariants as fault
 

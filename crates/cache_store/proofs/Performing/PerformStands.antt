@@ -19,7 +19,7 @@ use Rattle.disk_theory.proofs.Standing.{settled_same}
 use Rattle.entry_file.specs.EntryFile.{found, read_for, whole_in}
 use Rattle.entry_name.specs.EntryName.{file_name}
 use Rattle.file_handles.specs.Cache.{Cache, cache_at}
-use Rattle.file_handles.specs.Kept.{Kept}
+use Rattle.handle_table.specs.Kept.{Kept}
 use Rattle.file_handles.specs.Stands.{KeepsWhere, Stands}
 use Rattle.cache_store.proofs.Sessions.Closed.{settled_quiet}
 use Rattle.cache_store.proofs.Beside.{beside_in}

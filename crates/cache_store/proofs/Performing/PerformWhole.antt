@@ -15,13 +15,14 @@ use Rattle.cache_theory.specs.Text.{reply_text}
 use Rattle.cache_theory.proofs.CrashImages.Crashes.{safe_is_crash_safe}
 use Rattle.file_handles.proofs.Begun.{begun_in}
 use Rattle.file_handles.proofs.Where.{marked_in}
-use Rattle.cache_store.specs.Answering.{CutsRest, SendsRest, outcome_in, left_to_say}
+use Rattle.cache_replies.specs.Completing.{CutsRest, SendsRest}
+use Rattle.cache_replies.specs.Answers.{outcome_in, left_to_say}
 use Rattle.cache_store.specs.Open.{KeepsTo, Represents, Tells}
 use Rattle.cache_store.specs.Performing.{DoesCommand, DoesWhatIsDone, KeepsHistory, Performs, PerformsFor}
-use Rattle.cache_store.specs.Said.{Saying}
+use Rattle.cache_replies.specs.Said.{Saying}
 use Rattle.cache_store.specs.Session.{Open, Session}
-use Rattle.cache_store.specs.declared.answered.Answered.{Answered}
-use Rattle.cache_store.specs.declared.outcome.Verdict.{Verdict}
+use Rattle.cache_replies.specs.declared.answered.Answered.{Answered}
+use Rattle.cache_replies.specs.declared.verdict.Verdict.{Verdict}
 use Rattle.cache_store.specs.declared.fault.StoreFault.{StoreFault}
 use Rattle.cache_store.specs.declared.fault.StoreFault.TheVariants as fault
 use Rattle.cache_store.proofs.Clearing.ObjectsDoomed.{as_many, undoomed_before}

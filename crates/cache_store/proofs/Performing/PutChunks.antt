@@ -1,17 +1,17 @@
 -- What a `putalt` leaves of the chunks that are held, by its outcome.
 use Rattle.std.proofs.Common.{◌≡◌, ℕ, List, [], Err, IfOk, Ok, OnOk, Result, refl, subst, sym}
-use Rattle.cache_store.specs.Answering.{outcome_in}
+use Rattle.cache_replies.specs.Answers.{outcome_in}
 use Rattle.cache_store.specs.Learnt.{HasOutcomeOf}
 use Rattle.cache_store.specs.Reads.{PutsChunks}
-use Rattle.cache_store.specs.declared.answered.Answered.{Answered}
+use Rattle.cache_replies.specs.declared.answered.Answered.{Answered}
 use Rattle.cache_store.specs.declared.fault.StoreFault.{StoreFault}
-use Rattle.cache_store.specs.declared.outcome.Verdict.{Verdict}
-use Rattle.cache_store.specs.declared.outcome.Verdict.TheVariants as outcome
+use Rattle.cache_replies.specs.declared.verdict.Verdict.{Verdict}
+use Rattle.cache_replies.specs.declared.verdict.Verdict.TheVariants as outcome
 use Rattle.cache_theory.specs.Command.{Command}
 use Rattle.cache_theory.specs.Command.Command.{Doom, PutAlt}
 use Rattle.file_handles.specs.Answers.{OnRefused}
-use Rattle.file_handles.specs.HeldChunks.{SameChunks}
-use Rattle.file_handles.specs.Kept.{Kept}
+use Rattle.handle_table.specs.HeldChunks.{SameChunks}
+use Rattle.handle_table.specs.Kept.{Kept}
 use Rattle.file_handles.specs.PuttingAlt.{chunks_but_own}
 use Rattle.file_handles.specs.declared.fault.HandleFault.{HandleFault}
 use Rattle.file_handles.specs.declared.fault.HandleFault.TheVariants.{Disk, Memory, Read, Refused}

@@ -9,19 +9,21 @@ use Rattle.cache_theory.specs.Command.Reply.{Done}
 use Rattle.cache_theory.specs.Step.{effect, state_reply, step}
 use Rattle.cache_theory.specs.Text.{line}
 use Rattle.index_update.specs.Rest.{name_bytes}
-use Rattle.cache_store.specs.Answering.{AnswersOver, CutsRest, SendsRest, left_to_say}
+use Rattle.cache_store.specs.Answering.{AnswersOver}
+use Rattle.cache_replies.specs.Completing.{CutsRest, SendsRest}
+use Rattle.cache_replies.specs.Answers.{left_to_say}
 use Rattle.cache_store.specs.Faulting.{LooksAtNothing}
 use Rattle.cache_store.specs.InMemory.{AnswersInMemory, CutsPlainLine, RepliesInMemory}
 use Rattle.cache_store.specs.IndexCalls.{MakesNoCall}
-use Rattle.cache_store.specs.Printed.{IsPlainAnswer}
+use Rattle.cache_replies.specs.Printed.{IsPlainAnswer}
 use Rattle.cache_store.specs.Records.{AnswersHas, has_record}
-use Rattle.cache_store.specs.Replied.{reply_of}
-use Rattle.cache_store.specs.Said.{Saying}
+use Rattle.cache_replies.specs.Answers.{reply_of}
+use Rattle.cache_replies.specs.Said.{Saying}
 use Rattle.cache_store.specs.Session.{Open}
-use Rattle.cache_store.specs.declared.answered.Answered.{Answered}
-use Rattle.cache_store.specs.declared.answered.Answered.TheVariants as answered
+use Rattle.cache_replies.specs.declared.answered.Answered.{Answered}
+use Rattle.cache_replies.specs.declared.answered.Answered.TheVariants as answered
 use Rattle.cache_store.specs.declared.fault.StoreFault.{StoreFault}
-use Rattle.cache_store.specs.declared.outcome.Verdict.{Verdict}
+use Rattle.cache_replies.specs.declared.verdict.Verdict.{Verdict}
 use Rattle.cache_store.proofs.Performing.PerformDoes.{is_reply}
 use Rattle.cache_store.proofs.Saying.PrintedLaws.{said_rest}
 use Rattle.cache_store.proofs.Saying.Unsaid.{unsaid_answers, unsaid_by}

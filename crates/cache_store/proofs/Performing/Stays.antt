@@ -6,14 +6,14 @@ use Rattle.cache_store.specs.Faulting.{StaysAs, has_failed_look, is_failure}
 use Rattle.cache_store.specs.Faults.{ending, fault_ending, of_disk}
 use Rattle.cache_store.specs.Kept.{HoldsIndex}
 use Rattle.cache_store.specs.Open.{IsOpen, KeepsWhere, Represents}
-use Rattle.cache_store.specs.Records.{EndsWith, TellsAtEnd, TellsOf}
+use Rattle.memory_index.specs.Records.{EndsWith, TellsAtEnd, TellsOf}
 use Rattle.cache_store.specs.Session.{Open, Session}
 use Rattle.cache_store.specs.declared.fault.StoreFault.{StoreFault}
 use Rattle.cache_store.specs.declared.fault.StoreFault.TheVariants as fault
-use Rattle.cache_store.specs.declared.memory_index.MemoryIndex.{MemoryIndex}
+use Rattle.memory_index.specs.declared.memory_index.MemoryIndex.{MemoryIndex}
 use Rattle.cache_store.proofs.Records.IndexAchieves.{goes_on_telling, holds_same_base, session_at, spares_same}
 use Rattle.cache_store.proofs.Records.ListDoes.{Finishes}
-use Rattle.cache_store.proofs.Records.RecordsAtEnd.{ended_stays}
+use Rattle.memory_index.proofs.RecordsAtEnd.{ended_stays}
 use Rattle.cache_store.proofs.Performing.Represented.{keeps_bare, represented}
 use Rattle.cache_store.proofs.Spared.{spared_in}
 use Rattle.cache_theory.specs.History.{History, settled_at}
@@ -24,7 +24,7 @@ use Rattle.disk_theory.specs.declared.disk.DiskFault.{DiskFault}
 use Rattle.disk_theory.specs.declared.disk.DiskFault.TheVariants as disk
 use Rattle.disk_theory.specs.declared.place.Place.TheVariants.{Clear}
 use Rattle.file_handles.specs.Answers.{OnRead}
-use Rattle.file_handles.specs.Kept.{Kept}
+use Rattle.handle_table.specs.Kept.{Kept}
 use Rattle.file_handles.specs.declared.fault.HandleFault.{HandleFault}
 use Rattle.file_handles.specs.declared.fault.HandleFault.TheVariants as handle
 use Rattle.index_map.specs.Known.{Known, SameBase}

@@ -8,9 +8,9 @@ use Rattle.std.proofs.lemmas.List.{drop-drop, length-drop, length-take}
 use Rattle.std.proofs.lemmas.Bool.{cases_eq}
 use Rattle.chunk_store.specs.Chunks.{chunk}
 use Rattle.cache_store.specs.Prefix.{range_of}
-use Rattle.cache_store.specs.Said.{Saying}
-use Rattle.cache_store.specs.Saying.{CutsIn, SaysMore, SendsFront}
-use Rattle.cache_store.proofs.Saying.SayingLaws.{cuts_front, cuts_then, says_then}
+use Rattle.cache_replies.specs.Said.{Saying}
+use Rattle.cache_replies.specs.Saying.{CutsIn, SaysMore, SendsFront}
+use Rattle.cache_replies.proofs.SayingLaws.{cuts_front, cuts_then, says_then}
 use Rattle.file_handles.specs.Reading.{part_of_body}
 use Rattle.file_handles.proofs.Reading.Parts.{chunk_part}
 

@@ -2,13 +2,14 @@
 use Rattle.std.proofs.Common.{◌≡◌, ◌≤◌, ◌++◌, ◌-◌, ◌∙◌, ◌∷◌, [], ℕ, List, Ok, Err, Option, Some, Result, IsErrAnd, length, take, sym, ap, subst, arith}
 use Rattle.std.proofs.lemmas.List.{append-nil}
 use Rattle.cache_base.specs.declared.name.Name.{Name}
-use Rattle.cache_store.specs.Answering.{AnswersTo, outcome_of}
+use Rattle.cache_store.specs.Answering.{AnswersTo}
+use Rattle.cache_replies.specs.Answers.{outcome_of}
 use Rattle.cache_store.specs.Faulting.{SendsReplyFront, reply_front}
 use Rattle.cache_store.specs.Prefix.{ForPrefix, range_of}
-use Rattle.cache_store.specs.Said.{IsCut, Saying}
-use Rattle.cache_store.specs.Saying.{CutsIn, SaysMore, SendsFront}
-use Rattle.cache_store.specs.Showing.{ShownPart}
-use Rattle.cache_store.specs.declared.answered.Answered.TheVariants as answered
+use Rattle.cache_replies.specs.Said.{IsCut, Saying}
+use Rattle.cache_replies.specs.Saying.{CutsIn, SaysMore, SendsFront}
+use Rattle.cache_replies.specs.Showing.{ShownPart}
+use Rattle.cache_replies.specs.declared.answered.Answered.TheVariants as answered
 use Rattle.cache_store.specs.declared.fault.StoreFault.{StoreFault}
 use Rattle.cache_theory.specs.Command.{Command}
 use Rattle.cache_theory.specs.Ever.{entries}
@@ -25,7 +26,7 @@ use Rattle.entry_metadata.specs.declared.meta.Meta.{Meta}
 use Rattle.entry_name.specs.EntryName.{file_name}
 use Rattle.file_handles.specs.Found.{IsFound}
 use Rattle.file_handles.specs.Reading.{part_of_body}
-use Rattle.cache_store.proofs.Saying.SayingLaws.{said_nothing}
+use Rattle.cache_replies.proofs.SayingLaws.{said_nothing}
 use Rattle.cache_store.proofs.Reading.ShownParts.{Shows}
 
 -- where the machine finds an entry of these metadata, and the file was read at the place of the name

@@ -16,9 +16,9 @@ use Rattle.std.proofs.lemmas.List.{length-take, take_all, take_min}
 use Rattle.cache_theory.specs.Text.{with_number}
 use Rattle.file_handles.specs.Reading.{part_of_body}
 use Rattle.cache_store.specs.Faulting.{SendsReplyFront, reply_front}
-use Rattle.cache_store.specs.Said.{Saying}
-use Rattle.cache_store.specs.Saying.{SendsFront}
-use Rattle.cache_store.proofs.Saying.SayingLaws.{said_nothing}
+use Rattle.cache_replies.specs.Said.{Saying}
+use Rattle.cache_replies.specs.Saying.{SendsFront}
+use Rattle.cache_replies.proofs.SayingLaws.{said_nothing}
 
 -- where the slot is in use
 pub read_reply : (m : Machine) (slot from len : ℕ) → first_failing (checks m (ReadPart slot from len)) ≡ None → Part (take len (drop from (object_of m slot).version.body)) ≡ (step m (ReadPart slot from len)).reply

@@ -5,9 +5,9 @@ use Rattle.std.proofs.lemmas.List.{drop-drop, length-take, take_all, take_min}
 use Rattle.std.proofs.Math.Seq.{take-add}
 use Rattle.std.specs.declared.option.Option.{Option}
 use Rattle.file_handles.specs.Reading.{part_of_body}
-use Rattle.cache_store.specs.Said.{Saying}
-use Rattle.cache_store.specs.Saying.{SaysMore, SendsFront, StopsIn}
-use Rattle.cache_store.proofs.Saying.SayingLaws.{says_then, stops_front, stops_then}
+use Rattle.cache_replies.specs.Said.{Saying}
+use Rattle.cache_replies.specs.Saying.{SaysMore, SendsFront, StopsIn}
+use Rattle.cache_replies.proofs.SayingLaws.{says_then, stops_front, stops_then}
 
 -- a part is no longer than was asked for
 pub part_short : (body : List ℕ) (from len : ℕ) → length (part_of_body body from len) ≤ len

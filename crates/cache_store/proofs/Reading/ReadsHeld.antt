@@ -9,20 +9,21 @@ use Rattle.cache_theory.specs.Machine.{Machine, object_of}
 use Rattle.chunk_cache.specs.Cached.{CachedChunk, StandsFirst, bytes_of}
 use Rattle.disk_theory.specs.State.{State, standing}
 use Rattle.file_handles.specs.Cache.{cache_at}
-use Rattle.file_handles.specs.Held.{body_len_in}
-use Rattle.file_handles.specs.Kept.{Kept, object_at, object_in, use_at, used}
+use Rattle.handle_table.specs.Held.{body_len_in}
+use Rattle.handle_table.specs.Kept.{Kept, object_at, object_in, use_at, used}
 use Rattle.file_handles.specs.Reading.{HasReadOrNot, HoldsAsBefore, IsOfChunk, IsOfNone, IsPartHeld, LosesNone, SameButChunks, part_of_body}
-use Rattle.file_handles.specs.Stands.{HandlesStand, Represents, Stands}
+use Rattle.handle_table.specs.Standing.{HandlesStand}
+use Rattle.file_handles.specs.Stands.{Represents, Stands}
 use Rattle.file_handles.specs.declared.fault.HandleFault.{HandleFault}
-use Rattle.file_handles.specs.declared.object.Object.{Object}
-use Rattle.file_handles.specs.declared.object.Use.{Use}
+use Rattle.handle_table.specs.declared.object.Object.{Object}
+use Rattle.handle_table.specs.declared.object.Use.{Use}
 use Rattle.file_handles.proofs.Reading.PartsSlots.{part_len}
 use Rattle.file_handles.proofs.Reading.ReadKept.{read_represents, read_stands}
-use Rattle.cache_store.specs.Answering.{outcome_in}
+use Rattle.cache_replies.specs.Answers.{outcome_in}
 use Rattle.cache_store.specs.Reads.{AreHeld, LastIsFirst}
-use Rattle.cache_store.specs.declared.answered.Answered.{Answered}
-use Rattle.cache_store.specs.declared.outcome.Verdict.{Verdict}
-use Rattle.cache_store.specs.declared.outcome.Verdict.TheVariants as outcome
+use Rattle.cache_replies.specs.declared.answered.Answered.{Answered}
+use Rattle.cache_replies.specs.declared.verdict.Verdict.{Verdict}
+use Rattle.cache_replies.specs.declared.verdict.Verdict.TheVariants as outcome
 use Rattle.cache_store.specs.declared.fault.StoreFault.{StoreFault}
 
 -- ---- handles that hold other chunks

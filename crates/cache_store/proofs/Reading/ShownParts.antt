@@ -7,20 +7,20 @@ use Rattle.std.proofs.lemmas.List.{append_assoc, length-drop, length-take, lengt
 use Rattle.cache_base.proofs.CheckLaws.{none_from_map}
 use Rattle.alt_data.specs.AltData.{Alt, IsSpelled, main_body}
 use Rattle.alt_data.proofs.AltValue.{alt_spelled}
-use Rattle.cache_store.specs.Answering.{outcome_of}
-use Rattle.cache_store.specs.EntryText.{entry_text, head_text}
+use Rattle.cache_replies.specs.Answers.{outcome_of}
+use Rattle.cache_replies.specs.EntryText.{entry_text, head_text}
 use Rattle.cache_store.specs.Faulting.{reply_front}
 use Rattle.cache_store.specs.Prefix.{range_of}
-use Rattle.cache_store.specs.Printed.{is_check, lists_findings}
-use Rattle.cache_store.specs.Showing.{ShownPart, alt_in_meta, length_before, part_said, part_shown, showing}
-use Rattle.cache_store.specs.Texts.{found_line}
-use Rattle.cache_store.specs.declared.outcome.Verdict.TheVariants as outcome
+use Rattle.cache_replies.specs.Printed.{is_check, lists_findings}
+use Rattle.cache_replies.specs.Showing.{ShownPart, alt_in_meta, length_before, part_said, part_shown, showing}
+use Rattle.cache_replies.specs.Texts.{found_line}
+use Rattle.cache_replies.specs.declared.verdict.Verdict.TheVariants as outcome
 use Rattle.cache_store.specs.Replied.{replied}
-use Rattle.cache_store.specs.declared.answered.Answered.{Answered}
+use Rattle.cache_replies.specs.declared.answered.Answered.{Answered}
 use Rattle.cache_store.specs.declared.fault.StoreFault.{StoreFault}
-use Rattle.cache_store.specs.declared.shown.Part.{Part}
-use Rattle.cache_store.specs.declared.shown.Shown.{Shown}
-use Rattle.cache_store.specs.declared.shown.Shown.TheVariants as shown
+use Rattle.cache_replies.specs.declared.shown.Part.{Part}
+use Rattle.cache_replies.specs.declared.shown.Shown.{Shown}
+use Rattle.cache_replies.specs.declared.shown.Shown.TheVariants as shown
 use Rattle.cache_theory.specs.Checks.{alt_in_version}
 use Rattle.cache_theory.specs.Command.{Command, Reply}
 use Rattle.cache_theory.specs.Command.Command.{Get, GetAlt, MainBody}

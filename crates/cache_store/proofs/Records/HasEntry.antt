@@ -24,10 +24,10 @@ use Rattle.index_update.specs.Rest.{name_bytes}
 use Rattle.index_update.proofs.TellLaws.{bytes_wait}
 use Rattle.record_list.specs.Lists.{record_at}
 use Rattle.cache_store.specs.Records.{AnswersHas, RecordsTell, has_record}
-use Rattle.cache_store.specs.Replied.{reply_of}
-use Rattle.cache_store.specs.declared.answered.Answered.{Answered}
-use Rattle.cache_store.specs.declared.answered.Answered.TheVariants as answered
-use Rattle.cache_store.specs.declared.memory_index.MemoryIndex.{MemoryIndex}
+use Rattle.cache_replies.specs.Answers.{reply_of}
+use Rattle.cache_replies.specs.declared.answered.Answered.{Answered}
+use Rattle.cache_replies.specs.declared.answered.Answered.TheVariants as answered
+use Rattle.memory_index.specs.declared.memory_index.MemoryIndex.{MemoryIndex}
 
 -- a record is found where an entry fits
 record_fits : (name : Name) (content : Option (List ℕ)) → is_some (option_and_then (record_of name) content) ≡ fits_there name.0 content

@@ -4,12 +4,13 @@ use Rattle.std.specs.Prelude.{IfSome}
 use Rattle.cache_store.specs.Kept.{HoldsIndex}
 use Rattle.cache_store.specs.Open.{KeepsWhere, Tells}
 use Rattle.cache_store.specs.Performing.{AchievesFor, ComesToTell}
-use Rattle.cache_store.specs.Records.{RecordsTell, TellsOf}
-use Rattle.cache_store.specs.Replied.{reply_of}
+use Rattle.cache_store.specs.Records.{RecordsTell}
+use Rattle.memory_index.specs.Records.{TellsOf}
+use Rattle.cache_replies.specs.Answers.{reply_of}
 use Rattle.cache_store.specs.Session.{Session}
-use Rattle.cache_store.specs.declared.answered.Answered.{Answered}
+use Rattle.cache_replies.specs.declared.answered.Answered.{Answered}
 use Rattle.cache_store.specs.declared.fault.StoreFault.{StoreFault}
-use Rattle.cache_store.specs.declared.memory_index.MemoryIndex.{MemoryIndex}
+use Rattle.memory_index.specs.declared.memory_index.MemoryIndex.{MemoryIndex}
 use Rattle.cache_store.proofs.Records.ScanAlike.{tells_on_disk, tells_on_shelf}
 use Rattle.cache_store.proofs.Spared.{rested_in, spared_in}
 use Rattle.cache_theory.specs.Checks.{checks}
@@ -24,7 +25,7 @@ use Rattle.cache_theory.proofs.Rested.{with_rest}
 use Rattle.disk_theory.specs.State.{State}
 use Rattle.disk_theory.specs.declared.place.Place.TheVariants.{Clear}
 use Rattle.file_handles.specs.Cache.{cache_at}
-use Rattle.file_handles.specs.Kept.{Kept}
+use Rattle.handle_table.specs.Kept.{Kept}
 use Rattle.file_handles.specs.Stands.{KeepsWhere as CacheKeepsWhere, Represents as CacheRepresents}
 use Rattle.file_handles.proofs.Begun.{begun_in}
 use Rattle.file_handles.proofs.Where.{stand_for}

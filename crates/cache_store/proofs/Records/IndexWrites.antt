@@ -1,12 +1,12 @@
 -- What the commands do that have the index written.
 use Rattle.std.proofs.Common.{Bool, true, false, cond, ◌≡◌, ◌∙◌, ℕ, List, [], length, Contains, None, Ok, refl, sym, ap, subst}
 use Rattle.std.proofs.lemmas.List.Sorted.{IsPermutation-map, IsPermutation-sym, length_permutation}
-use Rattle.cache_store.specs.Answering.{outcome_in, outcome_of}
+use Rattle.cache_replies.specs.Answers.{outcome_in, outcome_of}
 use Rattle.cache_store.specs.Kept.{HoldsIndex}
 use Rattle.cache_store.specs.Performing.{AchievesFor}
-use Rattle.cache_store.specs.Records.{TellsOf}
-use Rattle.cache_store.specs.declared.answered.Answered.TheVariants as answered
-use Rattle.cache_store.specs.declared.memory_index.MemoryIndex.{MemoryIndex}
+use Rattle.memory_index.specs.Records.{TellsOf}
+use Rattle.cache_replies.specs.declared.answered.Answered.TheVariants as answered
+use Rattle.memory_index.specs.declared.memory_index.MemoryIndex.{MemoryIndex}
 use Rattle.cache_store.proofs.Records.IndexAchieves.{begun_spared, comes_from, rebuild_rests, rests_achieves, session_at}
 use Rattle.cache_store.proofs.Performing.PerformStands.{settled_in}
 use Rattle.cache_store.proofs.Records.ScanAlike.{tells_on_shelf}
@@ -25,7 +25,7 @@ use Rattle.disk_theory.specs.State.{State, settled, standing}
 use Rattle.disk_theory.specs.declared.place.Place.TheVariants.{Clear, Log}
 use Rattle.disk_theory.proofs.Standing.{settled_same}
 use Rattle.file_handles.specs.Cache.{cache_at}
-use Rattle.file_handles.specs.Kept.{Kept}
+use Rattle.handle_table.specs.Kept.{Kept}
 use Rattle.file_handles.specs.Stands.{Represents as CacheRepresents}
 use Rattle.index_file.specs.Printed.{IsPrinted}
 use Rattle.index_map.specs.Known.{Known}

@@ -22,8 +22,8 @@ use Rattle.entry_parts.specs.Setting.{without_element}
 use Rattle.file_handles.specs.Answers.{done_or, done_or_none}
 use Rattle.file_handles.specs.Carries.{CarriesOut, CarriesOutAt}
 use Rattle.file_handles.specs.Effects.{HasEffect, HasEffectAt, learnt, rest_once}
-use Rattle.file_handles.specs.Kept.{Kept}
-use Rattle.file_handles.specs.Stands.{HandlesStand}
+use Rattle.handle_table.specs.Kept.{Kept}
+use Rattle.handle_table.specs.Standing.{HandlesStand}
 use Rattle.file_handles.specs.declared.fault.Effect.{Effect}
 use Rattle.file_handles.specs.declared.fault.Effect.TheVariants as effects
 use Rattle.file_handles.specs.declared.fault.HandleFault.{HandleFault}
@@ -42,10 +42,11 @@ use Rattle.cache_store.specs.Learnt.{IsLearnt, effect_of, effect_of_some}
 use Rattle.cache_store.specs.Open.{KeepsWhere}
 use Rattle.cache_store.specs.Performing.{Achieves, AchievesFor}
 use Rattle.cache_store.specs.Records.{LearnsEffect, ScanChanges}
-use Rattle.cache_store.specs.Replied.{replied, reply_of}
+use Rattle.cache_store.specs.Replied.{replied}
+use Rattle.cache_replies.specs.Answers.{reply_of}
 use Rattle.cache_store.specs.Session.{Session, cache_of}
-use Rattle.cache_store.specs.declared.answered.Answered.{Answered}
-use Rattle.cache_store.specs.declared.answered.Answered.TheVariants as answered
+use Rattle.cache_replies.specs.declared.answered.Answered.{Answered}
+use Rattle.cache_replies.specs.declared.answered.Answered.TheVariants as answered
 use Rattle.cache_store.specs.declared.fault.StoreFault.{StoreFault}
 use Rattle.cache_store.specs.declared.fault.StoreFault.TheVariants as fault
 use Rattle.cache_store.proofs.Records.OneLearnt.{learns_nothing}

@@ -1,20 +1,22 @@
 -- How the records of all entries are listed.
 use Rattle.std.proofs.Common.{◌≡◌, ◌≢◌, ℕ, List, [], Result, Ok, Err, IsErrAnd, refl, sym, ap, subst}
-use Rattle.cache_store.specs.Answering.{AnswersTo, outcome_of}
+use Rattle.cache_store.specs.Answering.{AnswersTo}
+use Rattle.cache_replies.specs.Answers.{outcome_of}
 use Rattle.cache_store.specs.Faults.{of_disk}
 use Rattle.cache_store.specs.Kept.{HoldsIndex}
 use Rattle.cache_store.specs.Open.{KeepsWhere}
 use Rattle.cache_store.specs.Performing.{DoesWhatIsDone}
-use Rattle.cache_store.specs.Records.{AreAtEnd, EndsWith, TellsOf}
-use Rattle.cache_store.specs.Said.{Saying}
-use Rattle.cache_store.specs.Saying.{CutsIn, SaysMore}
-use Rattle.cache_store.specs.declared.answered.Answered.{Answered}
-use Rattle.cache_store.specs.declared.answered.Answered.TheVariants as answered
+use Rattle.memory_index.specs.Records.{AreAtEnd, EndsWith, TellsOf}
+use Rattle.cache_replies.specs.Said.{Saying}
+use Rattle.cache_replies.specs.Saying.{CutsIn, SaysMore}
+use Rattle.cache_replies.specs.declared.answered.Answered.{Answered}
+use Rattle.cache_replies.specs.declared.answered.Answered.TheVariants as answered
 use Rattle.cache_store.specs.declared.fault.StoreFault.{StoreFault}
 use Rattle.cache_store.specs.declared.fault.StoreFault.TheVariants as fault
-use Rattle.cache_store.specs.declared.memory_index.MemoryIndex.{MemoryIndex}
+use Rattle.memory_index.specs.declared.memory_index.MemoryIndex.{MemoryIndex}
 use Rattle.cache_store.proofs.Records.IndexAchieves.{begun_spared, comes_from, goes_on_telling, holds_same_base, list_rests, rests_next, rests_tells, session_at, spares_same}
-use Rattle.cache_store.proofs.Records.RecordsAtEnd.{goes_by, some_at_end, sorted_at_end}
+use Rattle.cache_store.proofs.Records.GoesBy.{goes_by}
+use Rattle.memory_index.proofs.RecordsAtEnd.{some_at_end, sorted_at_end}
 use Rattle.cache_store.proofs.Saying.SaidWhole.{fails_unsaid, if_err, not_said, on_ok, whole_cut, whole_said}
 use Rattle.cache_theory.specs.Checks.{checks}
 use Rattle.cache_theory.specs.Command.{Command, Reply}
@@ -29,7 +31,7 @@ use Rattle.disk_theory.specs.State.{State}
 use Rattle.disk_theory.specs.declared.disk.DiskFault.{DiskFault}
 use Rattle.disk_theory.specs.declared.disk.DiskFault.TheVariants as disk
 use Rattle.file_handles.specs.Cache.{cache_at}
-use Rattle.file_handles.specs.Kept.{Kept}
+use Rattle.handle_table.specs.Kept.{Kept}
 use Rattle.file_handles.specs.Stands.{Represents as CacheRepresents}
 use Rattle.file_handles.proofs.Where.{stand_for}
 use Rattle.index_map.specs.Known.{IsKnown, SameBase}

@@ -1,63 +1,20 @@
--- The record of one name is learnt, and the name leaves the rest.
-use Rattle.std.proofs.Common.{◌≡◌, ◌≢◌, ◌∙◌, Bool, true, false, cond, List, Option, None, Some, refl, sym, ap}
-use Rattle.std.specs.Prelude.{bytes_eq, if◌then◌else◌, option_and_then, ℕ}
+-- What is learnt of one command: the record of a name, or that no entry stands under it any more.
+use Rattle.std.proofs.Common.{◌≡◌, ◌∙◌, List, Option, None, Some, refl, sym, ap}
+use Rattle.std.specs.Prelude.{ℕ}
 use Rattle.cache_base.specs.declared.name.Name.{Name}
 use Rattle.cache_theory.specs.Step.{without as without_bytes}
-use Rattle.cache_store.specs.Records.{LearnsEffect, ScanChanges, TakenOff}
-use Rattle.cache_store.specs.declared.memory_index.MemoryIndex.{MemoryIndex}
+use Rattle.cache_store.specs.Records.{LearnsEffect, ScanChanges}
 use Rattle.file_handles.specs.Effects.{rest_once}
 use Rattle.file_handles.specs.declared.fault.Effect.{Effect}
 use Rattle.file_handles.specs.declared.fault.Effect.TheVariants as effect
-use Rattle.index_map.specs.Known.{Known, Sets}
 use Rattle.index_record.specs.declared.record.IndexRecord.{IndexRecord}
 use Rattle.index_theory.specs.Ever.{Entries}
-use Rattle.index_theory.specs.Scan.{record_of, scanned}
-use Rattle.index_update.specs.Rest.{name_bytes, without}
-use Rattle.index_update.specs.Tells.{SameBut, TellsAll, TellsSeen}
-use Rattle.index_update.proofs.ReadMore.{base_kept, base_then}
-use Rattle.index_update.proofs.TellLaws.{bytes_without, seen_tells, set_tells_all}
-use Rattle.record_list.specs.Lists.{same_name}
-use Rattle.record_list.proofs.NameLaws.{same_is, same_itself}
-use Rattle.cache_store.proofs.Records.TellsAlike.{tells_alike}
-
--- the scan now has this record under the name, or none, and is otherwise unchanged
-abbrev pub ScanSets : Name → Option IndexRecord → Entries → Entries → Type 0
-ScanSets name r before now = (q : Name) → scanned now q ≡ (if same_name name q then r else scanned before q)
-
--- another name has other bytes
-other_bytes : (name q : Name) → q ≢ name → same_name name q ≡ false
-other_bytes name q apart = go (same_name name q) refl
-  where
-    go : (b : Bool) → same_name name q ≡ b → b ≡ false
-    go false e = refl
-    go true e = absurd (apart (sym (same_is name q e)))
-
-module _ (name : Name) (r : Option IndexRecord) (before now : Entries) (sets : ScanSets name r before now) where
-  -- the entries before, with that of the name as it is now
-  between : Entries
-  between q = cond (bytes_eq name.0 q) (now q) (before q)
-
-  between_same : SameBut name before between
-  unfolding between
-  between_same q apart = ap (λ b. cond b (now q.0) (before q.0)) (other_bytes name q apart)
-
-  -- they are scanned as those now
-  between_scans : (q : Name) → scanned between q ≡ scanned now q
-  unfolding between
-  between_scans q = go (same_name name q) refl
-    where
-      go : (b : Bool) → same_name name q ≡ b → option_and_then (record_of q) (cond (same_name name q) (now q.0) (before q.0)) ≡ scanned now q
-      go true e = ap (λ b. option_and_then (record_of q) (cond b (now q.0) (before q.0))) e
-      go false e = ap (λ b. option_and_then (record_of q) (cond b (now q.0) (before q.0))) e ∙ sym (sets q ∙ ap (λ b. cond b r (scanned before q)) e)
-
-  scan_here : r ≡ scanned between name
-  scan_here = sym (between_scans name ∙ sets name ∙ ap (λ b. cond b r (scanned before name)) (same_itself name))
-
-  seen_on : (k l : Known) (rest : List Name) → Sets k l name r → TellsSeen before k (name_bytes rest) → TellsSeen now l (name_bytes (without name rest))
-  seen_on k l rest set tells q out = seen_tells before between k l name r rest set scan_here between_same tells q out ∙ between_scans q
-
-  all_on : (k l : Known) → Sets k l name r → TellsAll before k → TellsAll now l
-  all_on k l set tells q = set_tells_all before between k l name r set scan_here between_same tells q ∙ between_scans q
+use Rattle.index_update.specs.Rest.{name_bytes}
+use Rattle.index_update.proofs.ReadMore.{base_kept}
+use Rattle.index_update.proofs.TellLaws.{bytes_without}
+use Rattle.memory_index.specs.Records.{ScanSets, SetsRecord}
+use Rattle.memory_index.specs.declared.memory_index.MemoryIndex.{MemoryIndex}
+use Rattle.memory_index.proofs.TellsAlike.{tells_alike}
 
 -- nothing is learnt
 pub learns_nothing : (index : MemoryIndex) → LearnsEffect effect.Same index index
@@ -67,21 +24,19 @@ learns_nothing index = record {
   tells = λ before now changes tells. tells_alike before now index changes tells;
 }
 
-module _ (name : Name) (r : Option IndexRecord) (old : MemoryIndex) (k : Known) (new : MemoryIndex) (sets : Sets old.map k name r) (taken : TakenOff name k old.update new) where
+module _ (name : Name) (r : Option IndexRecord) (old new : MemoryIndex) (set : SetsRecord name r old new) where
   learns_one : (e : Effect) → ((rest : List (List ℕ)) → rest_once e rest ≡ without_bytes name.0 rest)
       → ((before now : Entries) → ScanChanges e before now → ScanSets name r before now) → LearnsEffect e old new
   learns_one e leaves changes = record {
-    rest = ap name_bytes taken.rest ∙ bytes_without name old.update ∙ sym (leaves (name_bytes old.update));
-    base = base_then old.map k new.map sets.base taken.base;
-    tells = λ before now scans tells.
-        let scan : ScanSets name r before now = changes before now scans in
-        taken.tells now (seen_on name r before now scan old.map k old.update sets tells.seen) (λ none. all_on name r before now scan old.map k sets (tells.all none));
+    rest = ap name_bytes set.rest ∙ bytes_without name old.update ∙ sym (leaves (name_bytes old.update));
+    base = set.base;
+    tells = λ before now scans tells. set.tells before now (changes before now scans) tells;
   }
 
 -- that no entry stands under a name any more
-pub learns_gone : (name : Name) (old : MemoryIndex) (k : Known) (new : MemoryIndex) → Sets old.map k name None → TakenOff name k old.update new → LearnsEffect (effect.Gone name) old new
-learns_gone name old k new sets taken = learns_one name None old k new sets taken (effect.Gone name) (λ rest. refl) (λ before now scans. scans)
+pub learns_gone : (name : Name) (old new : MemoryIndex) → SetsRecord name None old new → LearnsEffect (effect.Gone name) old new
+learns_gone name old new set = learns_one name None old new set (effect.Gone name) (λ rest. refl) (λ before now scans. scans)
 
 -- the record of an entry
-pub learns_wrote : (r : IndexRecord) (old : MemoryIndex) (k : Known) (new : MemoryIndex) → Sets old.map k r.name (Some r) → TakenOff r.name k old.update new → LearnsEffect (effect.Wrote r) old new
-learns_wrote r old k new sets taken = learns_one r.name (Some r) old k new sets taken (effect.Wrote r) (λ rest. refl) (λ before now scans. scans)
+pub learns_wrote : (r : IndexRecord) (old new : MemoryIndex) → SetsRecord r.name (Some r) old new → LearnsEffect (effect.Wrote r) old new
+learns_wrote r old new set = learns_one r.name (Some r) old new set (effect.Wrote r) (λ rest. refl) (λ before now scans. scans)

@@ -1,9 +1,9 @@
 -- What stands is scanned as the machine's shelf is, so the records tell of both or of neither.
 use Rattle.std.proofs.Common.{◌≡◌, sym}
 use Rattle.cache_base.specs.declared.name.Name.{Name}
-use Rattle.cache_store.specs.Records.{TellsOf}
-use Rattle.cache_store.specs.declared.memory_index.MemoryIndex.{MemoryIndex}
-use Rattle.cache_store.proofs.Records.TellsAlike.{tells_alike}
+use Rattle.memory_index.specs.Records.{TellsOf}
+use Rattle.memory_index.specs.declared.memory_index.MemoryIndex.{MemoryIndex}
+use Rattle.memory_index.proofs.TellsAlike.{tells_alike}
 use Rattle.cache_theory.specs.Machine.{Machine}
 use Rattle.cache_theory.specs.Table.{get}
 use Rattle.disk_theory.specs.State.{standing}

@@ -4,7 +4,7 @@ use Rattle.cache_store.specs.EndsUpdate.{EndsUpdate, IsTotal, update_over}
 use Rattle.cache_store.specs.Kept.{HoldsIndex}
 use Rattle.cache_store.specs.Open.{IsOpen, KeepsTo, KeepsWhere, LeavesOpen}
 use Rattle.cache_store.specs.declared.fault.StoreFault.{StoreFault}
-use Rattle.cache_store.specs.declared.memory_index.MemoryIndex.{MemoryIndex}
+use Rattle.memory_index.specs.declared.memory_index.MemoryIndex.{MemoryIndex}
 use Rattle.cache_store.proofs.Records.IndexAchieves.{goes_on_telling, holds_same_base, session_at, spares_same}
 use Rattle.cache_store.proofs.Records.ListDoes.{Finishes}
 use Rattle.cache_store.proofs.Performing.Represented.{keeps_bare, keeps_marked, keeps_to, represented}
@@ -15,7 +15,7 @@ use Rattle.cache_theory.specs.History.{History, settled_at}
 use Rattle.disk_theory.specs.State.{State, standing}
 use Rattle.disk_theory.specs.declared.place.Place.TheVariants.{Clear}
 use Rattle.evictor.specs.Evict.{total_kb}
-use Rattle.file_handles.specs.Kept.{Kept}
+use Rattle.handle_table.specs.Kept.{Kept}
 use Rattle.index_map.specs.Known.{IsKnown}
 use Rattle.index_theory.specs.Honest.{LeavesHonest}
 use Rattle.index_theory.proofs.UncleanLaws.{unclean_leaves_honest}

@@ -2,11 +2,11 @@
 use Rattle.std.proofs.Common.{◌≡◌, [], ◌∷◌, List, ℕ, Result, OnErr, refl, sym, subst}
 use Rattle.std.specs.Io.KnownBytes.{Appends}
 use Rattle.std.specs.Prelude.{Option, codes}
-use Rattle.cache_store.specs.Said.{IsCut, Saying}
-use Rattle.cache_store.specs.Saying.{CutsAll, CutsIn, SaysMore, SendsAll}
+use Rattle.cache_replies.specs.Said.{IsCut, Saying}
+use Rattle.cache_replies.specs.Saying.{CutsAll, CutsIn, SaysMore, SendsAll}
 use Rattle.cache_store.specs.declared.fault.StoreFault.{StoreFault}
-use Rattle.cache_store.proofs.Saying.SaidMore.{when_err}
-use Rattle.cache_store.proofs.Saying.SayingLaws.{said_nothing}
+use Rattle.cache_replies.proofs.SaidMore.{when_err}
+use Rattle.cache_replies.proofs.SayingLaws.{said_nothing}
 use Rattle.cache_theory.specs.Faulted.{fault_line}
 use Rattle.cache_theory.specs.Text.{line}
 

@@ -1,20 +1,21 @@
 -- What goes out tells the outcome, on any disk.
 use Rattle.std.proofs.Common.{◌≡◌, ◌≢◌, ℕ, List, [], ◌∷◌, true, false, Option, Result, Ok, Err, OnOk, IfOk, refl, sym, subst, ◌∙◌}
 use Rattle.std.specs.Io.KnownBytes.{Appends}
-use Rattle.cache_store.specs.Answering.{SaysOf, SendsRest, outcome_in, left_to_say}
-use Rattle.cache_store.specs.Printed.{IsPlainAnswer, Prints, PrintsFindings, PrintsNo, PrintsRefusal, is_check, is_plain, lists_findings}
-use Rattle.cache_store.specs.Said.{Saying}
+use Rattle.cache_replies.specs.Completing.{SaysOf, SendsRest}
+use Rattle.cache_replies.specs.Answers.{outcome_in, left_to_say}
+use Rattle.cache_replies.specs.Printed.{IsPlainAnswer, Prints, PrintsFindings, PrintsNo, PrintsRefusal, is_check, is_plain, lists_findings}
+use Rattle.cache_replies.specs.Said.{Saying}
 use Rattle.cache_store.specs.Session.{Session}
 use Rattle.cache_store.specs.Verifying.{IsFoundIn, PrintsFound}
-use Rattle.cache_store.specs.declared.answered.Answered.{Answered}
-use Rattle.cache_store.specs.declared.answered.Answered.TheVariants as answered
-use Rattle.cache_store.specs.declared.outcome.Verdict.{Verdict}
-use Rattle.cache_store.specs.declared.outcome.Verdict.TheVariants as outcome
+use Rattle.cache_replies.specs.declared.answered.Answered.{Answered}
+use Rattle.cache_replies.specs.declared.answered.Answered.TheVariants as answered
+use Rattle.cache_replies.specs.declared.verdict.Verdict.{Verdict}
+use Rattle.cache_replies.specs.declared.verdict.Verdict.TheVariants as outcome
 use Rattle.cache_store.specs.declared.fault.StoreFault.{StoreFault}
 use Rattle.cache_theory.specs.Command.{Command}
 use Rattle.cache_theory.specs.Command.Command.{Verify}
 use Rattle.index_map.specs.Known.{Known}
-use Rattle.cache_store.proofs.Saying.SayingLaws.{said_nothing}
+use Rattle.cache_replies.proofs.SayingLaws.{said_nothing}
 
 -- of an answer of which nothing is said yet, the rest is all
 pub said_rest : (a : Answered) (before : Option (List ℕ)) (mid : Saying) → mid.taken ≡ before → mid.held ≡ [] → SaysOf (left_to_say a) (left_to_say a) before mid

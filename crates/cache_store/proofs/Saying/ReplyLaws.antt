@@ -1,12 +1,14 @@
 -- A reply that was said, that is still to be said, or that was cut.
 use Rattle.std.specs.Prelude.{codes}
 use Rattle.std.proofs.Common.{◌≡◌, ℕ, List, [], Option, Some, Result, Ok, Err, IsErrAnd, refl, sym, subst, append-nil}
-use Rattle.cache_store.specs.Answering.{AnswersTo, CutsRest, SaysOf, outcome_of}
-use Rattle.cache_store.specs.Said.{IsCut, Said, Saying}
-use Rattle.cache_store.specs.Saying.{CutsIn, SaysMore}
-use Rattle.cache_store.specs.declared.answered.Answered.{Answered}
-use Rattle.cache_store.specs.declared.answered.Answered.TheVariants as answered
-use Rattle.cache_store.specs.declared.outcome.Verdict.TheVariants as outcome
+use Rattle.cache_store.specs.Answering.{AnswersTo}
+use Rattle.cache_replies.specs.Completing.{CutsRest, SaysOf}
+use Rattle.cache_replies.specs.Answers.{outcome_of}
+use Rattle.cache_replies.specs.Said.{IsCut, Said, Saying}
+use Rattle.cache_replies.specs.Saying.{CutsIn, SaysMore}
+use Rattle.cache_replies.specs.declared.answered.Answered.{Answered}
+use Rattle.cache_replies.specs.declared.answered.Answered.TheVariants as answered
+use Rattle.cache_replies.specs.declared.verdict.Verdict.TheVariants as outcome
 use Rattle.cache_store.specs.declared.fault.StoreFault.{StoreFault}
 use Rattle.cache_theory.specs.Command.{Command, Reply}
 use Rattle.cache_theory.specs.Command.Reply.{Part, Value}
@@ -16,7 +18,7 @@ use Rattle.cache_theory.specs.Text.{reply_text, with_bytes}
 use Rattle.file_handles.specs.Cache.{Cache}
 use Rattle.file_handles.specs.Carries.{CarriesOut}
 use Rattle.file_handles.specs.Stands.{Represents}
-use Rattle.cache_store.proofs.Saying.SayingLaws.{said_nothing}
+use Rattle.cache_replies.proofs.SayingLaws.{said_nothing}
 
 -- the rest of a reply is cut
 pub rest_cut : (was : Saying) (now : Option (List ℕ)) (rest : List ℕ) → CutsIn was now rest → CutsRest rest was now

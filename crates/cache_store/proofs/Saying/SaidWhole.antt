@@ -2,17 +2,18 @@
 use Rattle.std.proofs.Common.{◌≡◌, ◌≢◌, ◌∙◌, Bool, ℕ, List, [], Result, Ok, Err, IsErrAnd, IsTrue, sym, subst}
 use Rattle.std.specs.Prelude.{IfErr, OnOk}
 use Rattle.std.proofs.lemmas.List.{append-nil}
-use Rattle.cache_store.specs.Answering.{AnswersTo, outcome_of}
+use Rattle.cache_store.specs.Answering.{AnswersTo}
+use Rattle.cache_replies.specs.Answers.{outcome_of}
 use Rattle.cache_store.specs.Performing.{DoesCommand}
-use Rattle.cache_store.specs.Said.{IsCut, Saying}
-use Rattle.cache_store.specs.Saying.{CutsIn, SaysMore}
+use Rattle.cache_replies.specs.Said.{IsCut, Saying}
+use Rattle.cache_replies.specs.Saying.{CutsIn, SaysMore}
 use Rattle.cache_store.specs.Session.{Session}
-use Rattle.cache_store.specs.declared.answered.Answered.{Answered}
-use Rattle.cache_store.specs.declared.answered.Answered.TheVariants as answered
-use Rattle.cache_store.specs.declared.outcome.Verdict.TheVariants as outcome
+use Rattle.cache_replies.specs.declared.answered.Answered.{Answered}
+use Rattle.cache_replies.specs.declared.answered.Answered.TheVariants as answered
+use Rattle.cache_replies.specs.declared.verdict.Verdict.TheVariants as outcome
 use Rattle.cache_store.specs.declared.fault.StoreFault.{StoreFault}
 use Rattle.cache_store.specs.declared.fault.StoreFault.TheVariants as fault
-use Rattle.cache_store.proofs.Saying.SayingLaws.{said_nothing}
+use Rattle.cache_replies.proofs.SayingLaws.{said_nothing}
 use Rattle.cache_store.proofs.Saying.Unsaid.{none_cut}
 use Rattle.cache_theory.specs.Command.{Command, Reply}
 use Rattle.cache_theory.specs.Crash.{IsSafe}

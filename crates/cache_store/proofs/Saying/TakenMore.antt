@@ -6,15 +6,16 @@ use Rattle.cache_theory.specs.Command.{Command, Reply}
 use Rattle.cache_theory.specs.Command.Reply.{Resumed}
 use Rattle.cache_theory.specs.Text.{IsSpoken}
 use Rattle.cache_theory.proofs.Faults.RepliesApart.{step_spoken}
-use Rattle.cache_store.specs.Answering.{AnswersFor, AnswersTo, CutsRest, SaysOf, SendsRest}
+use Rattle.cache_store.specs.Answering.{AnswersFor, AnswersTo}
+use Rattle.cache_replies.specs.Completing.{CutsRest, SaysOf, SendsRest}
 use Rattle.cache_store.specs.Open.{IsOpen}
-use Rattle.cache_store.specs.Said.{IsCut, Said, Saying}
-use Rattle.cache_store.specs.Saying.{CutsIn, SaysMore, TakesMore}
+use Rattle.cache_replies.specs.Said.{IsCut, Said, Saying}
+use Rattle.cache_replies.specs.Saying.{CutsIn, SaysMore, TakesMore}
 use Rattle.cache_store.specs.Session.{Session, cache_of}
-use Rattle.cache_store.specs.declared.answered.Answered.{Answered}
-use Rattle.cache_store.specs.declared.outcome.Verdict.{Verdict}
+use Rattle.cache_replies.specs.declared.answered.Answered.{Answered}
+use Rattle.cache_replies.specs.declared.verdict.Verdict.{Verdict}
 use Rattle.cache_store.specs.declared.fault.StoreFault.{StoreFault}
-use Rattle.cache_store.proofs.Saying.SayingLaws.{said_nothing}
+use Rattle.cache_replies.proofs.SayingLaws.{said_nothing}
 
 pub takes_none : (taken : Option (List ℕ)) → TakesMore taken taken
 takes_none taken = ([], Appends-nil taken)

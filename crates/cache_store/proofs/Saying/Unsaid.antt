@@ -6,16 +6,19 @@ use Rattle.std.proofs.lemmas.Option.{IfSome_then}
 use Rattle.cache_theory.specs.Command.{Reply}
 use Rattle.cache_theory.specs.Text.{reply_text}
 use Rattle.cache_theory.proofs.Faults.RepliesLong.{replies_are_not_empty}
-use Rattle.cache_store.specs.Answering.{AnswersTo, IsReplyCut, SaysOf, outcome_in, outcome_of, left_to_say}
+use Rattle.cache_store.specs.Answering.{AnswersTo}
+use Rattle.cache_replies.specs.Completing.{IsReplyCut, SaysOf}
+use Rattle.cache_replies.specs.Answers.{outcome_in, outcome_of, left_to_say}
 use Rattle.cache_store.specs.Performing.{HadEffect}
-use Rattle.cache_store.specs.Replied.{replied, reply_of}
-use Rattle.cache_store.specs.Said.{Saying}
-use Rattle.cache_store.specs.declared.answered.Answered.{Answered}
-use Rattle.cache_store.specs.declared.answered.Answered.TheVariants as answered
-use Rattle.cache_store.specs.declared.outcome.Verdict.{Verdict}
+use Rattle.cache_store.specs.Replied.{replied}
+use Rattle.cache_replies.specs.Answers.{reply_of}
+use Rattle.cache_replies.specs.Said.{Saying}
+use Rattle.cache_replies.specs.declared.answered.Answered.{Answered}
+use Rattle.cache_replies.specs.declared.answered.Answered.TheVariants as answered
+use Rattle.cache_replies.specs.declared.verdict.Verdict.{Verdict}
 use Rattle.cache_store.specs.declared.fault.StoreFault.{StoreFault}
 use Rattle.cache_store.specs.declared.fault.StoreFault.TheVariants as fault
-use Rattle.cache_store.proofs.Saying.SayingLaws.{said_nothing}
+use Rattle.cache_replies.proofs.SayingLaws.{said_nothing}
 
 -- nothing of it is said yet
 abbrev pub IsUnsaid : Result Answered StoreFault → Type 0

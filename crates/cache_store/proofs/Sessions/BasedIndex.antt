@@ -18,7 +18,7 @@ use Rattle.startup_read.specs.Opening.{cleared, marked, opened, set_aside}
 use Rattle.startup_read.specs.Starts.{StartsFrom, StartsWith, is_clean}
 use Rattle.cache_store.specs.InUse.{HoldsBase, IsBasedOn, OpensInUse, past_header}
 use Rattle.cache_store.specs.Open.{BeginsOn}
-use Rattle.cache_store.specs.declared.memory_index.MemoryIndex.{MemoryIndex}
+use Rattle.memory_index.specs.declared.memory_index.MemoryIndex.{MemoryIndex}
 use Rattle.cache_store.proofs.Records.PastHeader.{SamePast, either_past, flagged_past}
 
 -- the records of an index that is read are the base

@@ -19,11 +19,11 @@ use Rattle.startup_read.specs.Opening.{OpensHonest}
 use Rattle.startup_read.proofs.KeptLaws.{same_base_keeps_index}
 use Rattle.cache_store.specs.Kept.{HoldsIndex}
 use Rattle.cache_store.specs.Open.{IsRest}
-use Rattle.cache_store.specs.Records.{SeesNone, TellsOf}
-use Rattle.cache_store.specs.declared.memory_index.MemoryIndex.{MemoryIndex}
+use Rattle.memory_index.specs.Records.{SeesNone, TellsOf}
+use Rattle.memory_index.specs.declared.memory_index.MemoryIndex.{MemoryIndex}
 use Rattle.cache_store.proofs.Sessions.RestIsOne.{no_names}
 use Rattle.cache_store.proofs.Sessions.StartAlong.{listed_along}
-use Rattle.cache_store.proofs.Records.TellsAlike.{tells_alike}
+use Rattle.memory_index.proofs.TellsAlike.{tells_alike}
 
 pub update_unready : (given start : Start) → given ≡ Update → given ≡ start → start ≢ Ready
 update_unready given start is same ready = let both : Update ≡ Ready = sym is ∙ same ∙ ready in cc

@@ -30,7 +30,7 @@ use Rattle.startup_read.proofs.UnchangedLaws.{unchanged_itself}
 use Rattle.startup_read.proofs.WritingLaws.{sound_placed}
 use Rattle.cache_store.specs.IndexCalls.{IsFresh}
 use Rattle.cache_store.specs.InUse.{ClosesInUse, HasJournalOf, HasShortJournal, past_header}
-use Rattle.cache_store.specs.declared.memory_index.MemoryIndex.{MemoryIndex}
+use Rattle.memory_index.specs.declared.memory_index.MemoryIndex.{MemoryIndex}
 use Rattle.cache_store.proofs.Records.PastHeader.{SamePast, flagged_past}
 use Rattle.cache_store.proofs.Records.SparedIndex.{few_fresh, fresh_not_due, not_due_fresh, not_due_same}
 

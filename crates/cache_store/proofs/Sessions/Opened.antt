@@ -21,7 +21,7 @@ use Rattle.entry_file.specs.EntryFile.{found, read_for, whole_in}
 use Rattle.entry_name.specs.EntryName.{file_name}
 use Rattle.file_handles.specs.Cache.{cache_at}
 use Rattle.file_handles.specs.Carries.{StandsForOpening, IsShelf}
-use Rattle.file_handles.specs.Kept.{Kept}
+use Rattle.handle_table.specs.Kept.{Kept}
 use Rattle.file_handles.specs.Stands.{KeepsTo as CacheKeepsTo}
 use Rattle.file_handles.proofs.IndexLeft.{cleared_left}
 use Rattle.index_keeps.proofs.KeepsLaws.{spared_is_filed_once, spared_is_safe}
@@ -39,7 +39,7 @@ use Rattle.startup_read.specs.Spares.{SparesEntries}
 use Rattle.startup_read.proofs.OpeningLaws.{sound_aside, sound_marked}
 use Rattle.cache_store.specs.Kept.{HoldsIndex}
 use Rattle.cache_store.specs.Open.{IsOpen, IsRest, KeepsFound, Opens, OpensHonestly, OpensSafely, StartsOn}
-use Rattle.cache_store.specs.Records.{TellsOf}
+use Rattle.memory_index.specs.Records.{TellsOf}
 use Rattle.cache_store.specs.Session.{Open, Session}
 use Rattle.cache_store.proofs.Sessions.Closed.{settled_quiet}
 use Rattle.cache_store.proofs.Sessions.OpenedIndex.{opened_spares, opened_stands, synced_stands}
@@ -47,7 +47,7 @@ use Rattle.cache_store.proofs.Performing.Represented.{represents}
 use Rattle.cache_store.proofs.Sessions.RestIsOne.{rest_exists, rest_is_one}
 use Rattle.cache_store.proofs.Shelves.{shelf_exists}
 use Rattle.cache_store.proofs.Sessions.StartAlong.{honest_along, rest_along}
-use Rattle.cache_store.proofs.Records.TellsAlike.{tells_alike}
+use Rattle.memory_index.proofs.TellsAlike.{tells_alike}
 
 -- ---- at every exit, with nothing pending at the call
 

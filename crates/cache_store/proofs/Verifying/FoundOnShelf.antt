@@ -8,7 +8,7 @@ use Rattle.cache_theory.specs.Machine.{Machine, writing_names}
 use Rattle.cache_theory.specs.Table.{Table}
 use Rattle.file_handles.specs.Cache.{Cache}
 use Rattle.file_handles.specs.Stands.{Represents}
-use Rattle.file_handles.specs.Users.{AreWritingNames}
+use Rattle.handle_table.specs.Users.{AreWritingNames}
 use Rattle.index_record.specs.declared.record.IndexRecord.{IndexRecord}
 use Rattle.index_theory.specs.Ever.{entries_on}
 

@@ -6,14 +6,15 @@ use Rattle.cache_check.specs.declared.finding.Finding.{Finding}
 use Rattle.cache_store.specs.Kept.{HoldsIndex}
 use Rattle.cache_store.specs.Performing.{AchievesWhatIsDone}
 use Rattle.cache_store.specs.Verifying.{IsFoundIn}
-use Rattle.cache_store.specs.declared.answered.Answered.{Answered}
-use Rattle.cache_store.specs.declared.answered.Answered.TheVariants as answered
+use Rattle.cache_replies.specs.declared.answered.Answered.{Answered}
+use Rattle.cache_replies.specs.declared.answered.Answered.TheVariants as answered
 use Rattle.cache_store.specs.declared.fault.StoreFault.{StoreFault}
-use Rattle.cache_store.specs.declared.memory_index.MemoryIndex.{MemoryIndex}
+use Rattle.memory_index.specs.declared.memory_index.MemoryIndex.{MemoryIndex}
 use Rattle.cache_store.proofs.Verifying.FoundOnShelf.{found_on_shelf}
 use Rattle.cache_store.proofs.Records.IndexAchieves.{RestsWith, comes_from, fails_sparing, goes_on_telling, holds_same_base, rests_achieves, session_at, spares_same}
 use Rattle.cache_store.proofs.Records.ListDoes.{Finishes}
-use Rattle.cache_store.proofs.Records.RecordsAtEnd.{goes_by, some_at_end, sorted_at_end}
+use Rattle.cache_store.proofs.Records.GoesBy.{goes_by}
+use Rattle.memory_index.proofs.RecordsAtEnd.{some_at_end, sorted_at_end}
 use Rattle.cache_theory.specs.Checks.{checks}
 use Rattle.cache_theory.specs.Command.Command.{Verify, VerifyRecords}
 use Rattle.cache_theory.specs.Command.Reply.{Findings}
@@ -22,9 +23,9 @@ use Rattle.cache_theory.specs.Step.{effect, step}
 use Rattle.cache_theory.specs.Table.{Table}
 use Rattle.disk_theory.specs.State.{State}
 use Rattle.file_handles.specs.Cache.{cache_at}
-use Rattle.file_handles.specs.Kept.{Kept}
+use Rattle.handle_table.specs.Kept.{Kept}
 use Rattle.file_handles.specs.Stands.{Represents as CacheRepresents}
-use Rattle.file_handles.specs.Users.{AreWritingNames}
+use Rattle.handle_table.specs.Users.{AreWritingNames}
 use Rattle.file_handles.proofs.Where.{stand_for}
 use Rattle.index_map.specs.Known.{IsKnown}
 use Rattle.index_record.specs.declared.record.IndexRecord.{IndexRecord}

@@ -6,7 +6,7 @@ use Rattle.cache_store.specs.EndsUpdate.{EndsUpdate, IsTotal, update_over}
 use Rattle.cache_store.specs.InUse.{past_header}
 use Rattle.cache_store.specs.Open.{KeepsTo, Tells}
 use Rattle.cache_store.specs.Session.{Session}
-use Rattle.cache_store.specs.declared.outcome.Verdict.{Verdict}
+use Rattle.cache_replies.specs.declared.verdict.Verdict.{Verdict}
 use Rattle.cache_store.specs.declared.fault.StoreFault.{StoreFault}
 use Rattle.cache_store.proofs.Performing.Represented.{represents}
 use Rattle.cache_theory.specs.Checks.{checks}

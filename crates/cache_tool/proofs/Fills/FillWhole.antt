@@ -5,7 +5,7 @@ use Rattle.cache_base.specs.declared.status.Status.{Status}
 use Rattle.cache_store.specs.DoneFor.{DoneFor, IsDoneFor}
 use Rattle.cache_store.specs.Open.{KeepsTo, Tells}
 use Rattle.cache_store.specs.Session.{Session}
-use Rattle.cache_store.specs.declared.outcome.Verdict.{Verdict}
+use Rattle.cache_replies.specs.declared.verdict.Verdict.{Verdict}
 use Rattle.cache_store.specs.declared.fault.StoreFault.{StoreFault}
 use Rattle.cache_theory.specs.Command.{Command}
 use Rattle.cache_theory.specs.Command.Command.{Evict, ListRecords, Verify}

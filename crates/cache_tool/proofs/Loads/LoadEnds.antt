@@ -10,8 +10,8 @@ use Rattle.cache_base.specs.declared.status.Status.TheVariants as status
 use Rattle.cache_store.specs.DoneFor.{IsResumedBy}
 use Rattle.cache_store.specs.Open.{KeepsTo, StartsOn}
 use Rattle.cache_store.specs.Performing.{GoesBy}
-use Rattle.cache_store.specs.Said.{IsCut}
-use Rattle.cache_store.specs.Saying.{IsPart}
+use Rattle.cache_replies.specs.Said.{IsCut}
+use Rattle.cache_replies.specs.Saying.{IsPart}
 use Rattle.cache_store.specs.Session.{Session}
 use Rattle.cache_store.specs.declared.fault.StoreFault.{StoreFault}
 use Rattle.cache_store.specs.declared.fault.StoreFault.TheVariants as fault

@@ -13,8 +13,8 @@ use Rattle.cache_theory.specs.History.{History}
 use Rattle.cache_theory.specs.Step.{after}
 use Rattle.cache_store.specs.Open.{KeepsTo}
 use Rattle.cache_store.specs.Session.{Session}
-use Rattle.cache_store.specs.declared.outcome.Verdict.{Verdict}
-use Rattle.cache_store.specs.declared.outcome.Verdict.TheVariants as outcome
+use Rattle.cache_replies.specs.declared.verdict.Verdict.{Verdict}
+use Rattle.cache_replies.specs.declared.verdict.Verdict.TheVariants as outcome
 use Rattle.cache_store.specs.declared.fault.StoreFault.{StoreFault}
 use Rattle.cache_tool.specs.declared.piece.PieceEnd.{PieceEnd}
 use Rattle.cache_tool.specs.declared.piece.PieceEnd.TheVariants as ended

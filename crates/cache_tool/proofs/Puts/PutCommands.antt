@@ -9,11 +9,11 @@ use Rattle.cache_theory.specs.Machine.{Machine}
 use Rattle.cache_theory.specs.Marks.{all_begun, begun}
 use Rattle.cache_theory.specs.Step.{after, step}
 use Rattle.cache_theory.specs.Text.{reply_text}
-use Rattle.cache_store.specs.Answering.{outcome_of}
+use Rattle.cache_replies.specs.Answers.{outcome_of}
 use Rattle.cache_store.specs.Open.{KeepsTo}
 use Rattle.cache_store.specs.Session.{Session}
-use Rattle.cache_store.specs.declared.outcome.Verdict.{Verdict}
-use Rattle.cache_store.specs.declared.outcome.Verdict.TheVariants as outcome
+use Rattle.cache_replies.specs.declared.verdict.Verdict.{Verdict}
+use Rattle.cache_replies.specs.declared.verdict.Verdict.TheVariants as outcome
 use Rattle.cache_store.specs.declared.fault.StoreFault.{StoreFault}
 use Rattle.cache_tool.specs.PutProgress.{AreDone, AreSent, IsRefused, StopsWith, all_unanswered}
 use Rattle.cache_tool.specs.Replies.{is_done, last_reply, until_refused}

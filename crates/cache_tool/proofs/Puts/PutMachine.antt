@@ -22,12 +22,12 @@ use Rattle.cache_theory.proofs.ObjectLaws.Slots.{with_slot_same}
 use Rattle.std.proofs.Common.{length-set}
 use Rattle.entry_file.specs.Version.{Version}
 use Rattle.entry_name.specs.EntryName.{file_name}
-use Rattle.cache_store.specs.Answering.{outcome_of}
+use Rattle.cache_replies.specs.Answers.{outcome_of}
 use Rattle.cache_store.specs.Open.{KeepsTo}
 use Rattle.cache_store.specs.Performing.{goes_by_records}
 use Rattle.cache_store.specs.Session.{Session}
-use Rattle.cache_store.specs.declared.outcome.Verdict.{Verdict}
-use Rattle.cache_store.specs.declared.outcome.Verdict.TheVariants as outcome
+use Rattle.cache_replies.specs.declared.verdict.Verdict.{Verdict}
+use Rattle.cache_replies.specs.declared.verdict.Verdict.TheVariants as outcome
 use Rattle.cache_store.specs.declared.fault.StoreFault.{StoreFault}
 use Rattle.cache_tool.specs.AnyDisk.{too_large_line}
 use Rattle.cache_tool.specs.PutProgress.{AreSent, IsRefused, IsSent, IsWriting, PieceIsSent}

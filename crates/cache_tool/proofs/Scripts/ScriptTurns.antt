@@ -15,9 +15,9 @@ use Rattle.cache_store.specs.DoneFor.{IsDoneFor}
 use Rattle.cache_store.specs.Faulting.{FailsForGood, SendsReplyFront, StaysAs}
 use Rattle.cache_store.specs.Open.{KeepsTo, Tells}
 use Rattle.cache_store.specs.Performing.{ComesToTell, PerformsAndKeeps, PerformsFor}
-use Rattle.cache_store.specs.Said.{IsCut}
+use Rattle.cache_replies.specs.Said.{IsCut}
 use Rattle.cache_store.specs.Session.{cache_of}
-use Rattle.cache_store.specs.declared.outcome.Verdict.{Verdict}
+use Rattle.cache_replies.specs.declared.verdict.Verdict.{Verdict}
 use Rattle.cache_store.specs.declared.fault.StoreFault.{StoreFault}
 use Rattle.cache_store.specs.declared.fault.StoreFault.TheVariants as fault
 use Rattle.cache_store.proofs.Performing.Represented.{represents}

@@ -6,8 +6,8 @@ use Rattle.std.proofs.lemmas.List.{append-nil, length-drop, take-append-drop}
 use Rattle.cache_base.proofs.ByteLaws.{bytes_drop, bytes_take}
 use Rattle.cache_base.specs.Bytes.{AreBytes}
 use Rattle.cache_base.specs.declared.limits.TheConstants.{PIECE_MAX}
-use Rattle.cache_store.specs.Answering.{outcome_of}
-use Rattle.cache_store.specs.declared.outcome.Verdict.TheVariants as outcome
+use Rattle.cache_replies.specs.Answers.{outcome_of}
+use Rattle.cache_replies.specs.declared.verdict.Verdict.TheVariants as outcome
 use Rattle.cache_theory.specs.Command.{Command}
 use Rattle.cache_theory.specs.Command.Command.{Append, Close, Create}
 use Rattle.cache_theory.specs.Machine.{Machine, Object, is_writer, number_of, object_of}

@@ -27,12 +27,12 @@ use Rattle.doom_area.proofs.ClearedTo.{removes_done}
 use Rattle.entry_name.specs.EntryName.{file_name}
 use Rattle.file_handles.specs.Cache.{cache_at}
 use Rattle.file_handles.specs.Closing.{ClosesAll, IsClosed, let_go_by, without_doomed}
-use Rattle.file_handles.specs.Held.{object_place, place_of}
-use Rattle.file_handles.specs.Kept.{Kept, object_at}
+use Rattle.handle_table.specs.Held.{object_place, place_of}
+use Rattle.handle_table.specs.Kept.{Kept, object_at}
 use Rattle.file_handles.specs.Stands.{KeepsTo, RepresentsSome, Stands}
-use Rattle.file_handles.specs.declared.object.Object.{Object}
+use Rattle.handle_table.specs.declared.object.Object.{Object}
 use Rattle.file_handles.proofs.Histories.{history_of}
-use Rattle.file_handles.proofs.KeptLaws.{place_within}
+use Rattle.handle_table.proofs.KeptLaws.{place_within}
 use Rattle.file_handles.proofs.Places.{aside_at, file_stands, published_place, published_there}
 
 -- the file of an object outlasts the handles: it does not stand aside

@@ -24,17 +24,18 @@ use Rattle.file_handles.specs.Answers.{done_or, reply_in}
 use Rattle.file_handles.specs.Cache.{cache_at}
 use Rattle.file_handles.specs.Changes.{completed}
 use Rattle.file_handles.specs.Closing.{GivesUp, MayGiveUp, is_some_draft}
-use Rattle.file_handles.specs.Held.{IsEntryOf, is_draft, object_place}
-use Rattle.file_handles.specs.Kept.{Kept, object_at, use_at, used, with_object}
+use Rattle.handle_table.specs.Held.{IsEntryOf, is_draft, object_place}
+use Rattle.handle_table.specs.Kept.{Kept, object_at, use_at, used, with_object}
 use Rattle.file_handles.specs.Publishing.{CompletesAt, CompletesThere}
-use Rattle.file_handles.specs.Refuses.{Refuses}
-use Rattle.file_handles.specs.Stands.{HandlesStand, KeepsWhere, RepresentsSome, Stands}
+use Rattle.handle_table.specs.Refuses.{Refuses}
+use Rattle.handle_table.specs.Standing.{HandlesStand}
+use Rattle.file_handles.specs.Stands.{KeepsWhere, RepresentsSome, Stands}
 use Rattle.file_handles.specs.declared.fault.HandleFault.{HandleFault}
 use Rattle.file_handles.specs.declared.fault.HandleFault.TheVariants as fault
-use Rattle.file_handles.specs.declared.object.Entry.{Entry}
-use Rattle.file_handles.specs.declared.object.Entry.TheVariants as entry
-use Rattle.file_handles.specs.declared.object.Object.{Object}
-use Rattle.file_handles.specs.declared.object.Use.{Use}
+use Rattle.handle_table.specs.declared.object.Entry.{Entry}
+use Rattle.handle_table.specs.declared.object.Entry.TheVariants as entry
+use Rattle.handle_table.specs.declared.object.Object.{Object}
+use Rattle.handle_table.specs.declared.object.Use.{Use}
 use Rattle.file_handles.proofs.Begun.{begun_in}
 use Rattle.file_handles.proofs.Finishing.Completions.{completion}
 use Rattle.file_handles.proofs.Setting.ElementMarks.{finishes_out}
@@ -44,7 +45,7 @@ use Rattle.file_handles.proofs.Histories.{history_of}
 use Rattle.file_handles.proofs.Places.{file_stands}
 use Rattle.file_handles.proofs.Finishing.Published.{MayFinish}
 use Rattle.file_handles.proofs.Refused.{refused_where}
-use Rattle.file_handles.proofs.Closing.Released.{released_objects, some_object}
+use Rattle.handle_table.proofs.Released.{released_objects, some_object}
 use Rattle.file_handles.proofs.Where.{LeavesWhere, bare_in}
 
 -- A slot that is not in use.

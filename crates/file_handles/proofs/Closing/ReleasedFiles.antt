@@ -20,16 +20,17 @@ use Rattle.chunk_cache.specs.Cached.{CachedChunk}
 use Rattle.disk_theory.specs.State.{State, names_now, standing}
 use Rattle.disk_theory.specs.declared.place.Place.TheVariants.{Doomed}
 use Rattle.file_handles.specs.Cache.{cache_at}
-use Rattle.file_handles.specs.Held.{IsHeldAs}
-use Rattle.file_handles.specs.HeldChunks.{IsChunkInUse}
-use Rattle.file_handles.specs.Kept.{Kept, object_at, use_at}
-use Rattle.file_handles.specs.Stands.{HandlesStand, IsAt, KeepsWhere}
-use Rattle.file_handles.specs.declared.object.Object.{Object}
-use Rattle.file_handles.specs.declared.object.Use.{Use}
+use Rattle.handle_table.specs.Held.{IsHeldAs}
+use Rattle.handle_table.specs.HeldChunks.{IsChunkInUse}
+use Rattle.handle_table.specs.Kept.{Kept, object_at, use_at}
+use Rattle.handle_table.specs.Standing.{HandlesStand}
+use Rattle.file_handles.specs.Stands.{IsAt, KeepsWhere}
+use Rattle.handle_table.specs.declared.object.Object.{Object}
+use Rattle.handle_table.specs.declared.object.Use.{Use}
 use Rattle.file_handles.proofs.Setting.ElementSlots.{slot_is}
 use Rattle.file_handles.proofs.Reading.HeldChunkLaws.{all_on}
 use Rattle.file_handles.proofs.Histories.{history_of}
-use Rattle.file_handles.proofs.Closing.Released.{left_at, left_has, released_objects, released_slots, some_object, use_was}
+use Rattle.handle_table.proofs.Released.{left_at, left_has, released_objects, released_slots, some_object, use_was}
 
 -- the handles with these objects, without the slot
 abbrev pub left_with : Kept → ℕ → List (Option Object) → List CachedChunk → Kept

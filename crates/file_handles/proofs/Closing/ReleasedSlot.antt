@@ -26,17 +26,18 @@ use Rattle.disk_theory.proofs.Sound.{found}
 use Rattle.disk_theory.proofs.Standing.{removed_puts}
 use Rattle.file_handles.specs.Cache.{cache_at}
 use Rattle.file_handles.specs.Closing.{let_go_by, without_doomed}
-use Rattle.file_handles.specs.Seats.{is_use_of}
-use Rattle.file_handles.specs.HeldChunks.{IsChunkInUse}
-use Rattle.file_handles.specs.Kept.{Kept, object_at, use_at, with_object, with_use, without_chunks}
-use Rattle.file_handles.specs.Stands.{HandlesStand, IsAt, KeepsWhere}
-use Rattle.file_handles.specs.declared.object.Object.{Object}
-use Rattle.file_handles.specs.declared.object.Use.{Use}
+use Rattle.handle_table.specs.Seats.{is_use_of}
+use Rattle.handle_table.specs.HeldChunks.{IsChunkInUse}
+use Rattle.handle_table.specs.Kept.{Kept, object_at, use_at, with_object, with_use, without_chunks}
+use Rattle.handle_table.specs.Standing.{HandlesStand}
+use Rattle.file_handles.specs.Stands.{IsAt, KeepsWhere}
+use Rattle.handle_table.specs.declared.object.Object.{Object}
+use Rattle.handle_table.specs.declared.object.Use.{Use}
 use Rattle.file_handles.proofs.Reading.HeldChunkLaws.{all_on, chunk_on, keeps_own}
 use Rattle.file_handles.proofs.Histories.{history_of}
-use Rattle.file_handles.proofs.KeptLaws.{object_set_here, object_set_other, place_within}
+use Rattle.handle_table.proofs.KeptLaws.{object_set_here, object_set_other, place_within}
 use Rattle.file_handles.proofs.Places.{aside_at}
-use Rattle.file_handles.proofs.Closing.Released.{no_other, other_left, other_use, use_placed}
+use Rattle.handle_table.proofs.Released.{no_other, other_left, other_use, use_placed}
 use Rattle.file_handles.proofs.Closing.ReleasedFiles.{LeavesFor, left_in}
 
 -- the file of this number among the doomed is removed

@@ -23,9 +23,10 @@ use Rattle.disk_theory.specs.Standing.{PutsContent}
 use Rattle.disk_theory.specs.State.{State, removed, standing}
 use Rattle.disk_theory.proofs.Standing.{removed_puts}
 use Rattle.file_handles.specs.Cache.{cache_at}
-use Rattle.file_handles.specs.Held.{IsHeldAs}
-use Rattle.file_handles.specs.Kept.{Kept}
-use Rattle.file_handles.specs.Stands.{HandlesStand, IsAt, KeepsWhere, Stands}
+use Rattle.handle_table.specs.Held.{IsHeldAs}
+use Rattle.handle_table.specs.Kept.{Kept}
+use Rattle.handle_table.specs.Standing.{HandlesStand}
+use Rattle.file_handles.specs.Stands.{IsAt, KeepsWhere, Stands}
 use Rattle.file_handles.proofs.Reading.HeldChunkLaws.{chunks_on}
 use Rattle.file_handles.proofs.Histories.{history_of}
 

@@ -24,8 +24,9 @@ use Rattle.entry_name.specs.EntryName.{file_name}
 use Rattle.file_handles.specs.Answers.{OnRefused}
 use Rattle.file_handles.specs.Cache.{cache_at}
 use Rattle.file_handles.specs.Dooming.{EndsOn}
-use Rattle.file_handles.specs.Kept.{Kept}
-use Rattle.file_handles.specs.Loading.{IsMetaFor, used_place}
+use Rattle.handle_table.specs.Kept.{Kept}
+use Rattle.handle_table.specs.Finding.{used_place}
+use Rattle.file_handles.specs.Loading.{IsMetaFor}
 use Rattle.file_handles.specs.Stands.{Stands}
 use Rattle.file_handles.specs.declared.fault.HandleFault.{HandleFault}
 use Rattle.file_handles.specs.declared.fault.HandleFault.TheVariants as fault

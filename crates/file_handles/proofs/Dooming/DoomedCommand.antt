@@ -29,10 +29,10 @@ use Rattle.entry_name.specs.EntryName.{file_name}
 use Rattle.file_handles.specs.Answers.{OnRefused, done_or, fault_of}
 use Rattle.file_handles.specs.Cache.{cache_at}
 use Rattle.file_handles.specs.Dooming.{DoomsUnder, EndsOn}
-use Rattle.file_handles.specs.Finding.{is_user}
-use Rattle.file_handles.specs.Kept.{Kept}
+use Rattle.handle_table.specs.Finding.{is_user}
+use Rattle.handle_table.specs.Kept.{Kept}
 use Rattle.file_handles.specs.Stands.{KeepsWhere, ReachesHistory, RepresentsSome}
-use Rattle.file_handles.specs.Users.{users_of}
+use Rattle.handle_table.specs.Users.{users_of}
 use Rattle.file_handles.specs.declared.fault.HandleFault.{HandleFault}
 use Rattle.file_handles.specs.declared.fault.HandleFault.TheVariants as fault
 use Rattle.file_handles.proofs.Begun.{begun_in}
@@ -40,8 +40,8 @@ use Rattle.file_handles.proofs.Dooming.DoomedCarried.{done_in, failed_in, refuse
 use Rattle.file_handles.proofs.Dooming.DoomedChecks.{doom_checks, ended}
 use Rattle.file_handles.proofs.Finding.FoundShelf.{shelf_read}
 use Rattle.file_handles.proofs.Histories.{history_of}
-use Rattle.file_handles.proofs.Dooming.SlotUsers.{unused_none}
-use Rattle.file_handles.proofs.Finding.User.{no_one, no_user_there}
+use Rattle.handle_table.proofs.SlotUsers.{unused_none}
+use Rattle.handle_table.proofs.User.{no_one, no_user_there}
 use Rattle.file_handles.proofs.Where.{LeavesWhere}
 
 -- Answers that were handed on.

@@ -27,18 +27,18 @@ use Rattle.disk_theory.proofs.Standing.{renamed_moves}
 use Rattle.doom_area.specs.DoomArea.{IsLeastFree}
 use Rattle.entry_name.specs.EntryName.{file_name}
 use Rattle.file_handles.specs.Cache.{cache_at}
-use Rattle.file_handles.specs.Dooming.{number_in, numbers_in}
-use Rattle.file_handles.specs.Finding.{is_user}
-use Rattle.file_handles.specs.Held.{place_of}
-use Rattle.file_handles.specs.Kept.{Kept, object_at, with_object}
+use Rattle.handle_table.specs.Aside.{number_in, numbers_in}
+use Rattle.handle_table.specs.Finding.{is_user}
+use Rattle.handle_table.specs.Held.{place_of}
+use Rattle.handle_table.specs.Kept.{Kept, object_at, with_object}
 use Rattle.file_handles.specs.Stands.{IsAt, KeepsWhere}
-use Rattle.file_handles.specs.declared.object.Object.{Object}
+use Rattle.handle_table.specs.declared.object.Object.{Object}
 use Rattle.file_handles.proofs.Dooming.AsidePlaces.{one_doomed}
-use Rattle.file_handles.proofs.Dooming.DoomedNumbers.{number_of_doomed}
+use Rattle.handle_table.proofs.AsideNumbers.{number_of_doomed}
 use Rattle.file_handles.proofs.Dooming.DoomedStands.{MayDoom, doomed_as, other_next, stands_next, user_next, was_doomed}
 use Rattle.file_handles.proofs.Histories.{history_of}
 use Rattle.file_handles.proofs.Places.{aside_at, aside_is, file_stands, published_there}
-use Rattle.file_handles.proofs.Finding.User.{user_found, user_is_used}
+use Rattle.handle_table.proofs.User.{user_found, user_is_used}
 
 module _ (s t : State) (k : Kept) (m : Machine) (number : ℕ → ℕ) (name : Name) (p : ℕ) (x : Object) (n : ℕ) (may : MayDoom s t k m number name p x n) where
   user_object : slice_get m.objects (number p) ≡ Some (object m (number p))

@@ -16,15 +16,16 @@ use Rattle.cache_theory.proofs.ObjectLaws.Users.{in_use_along, same_number}
 use Rattle.chunk_cache.specs.Cached.{CachedChunk}
 use Rattle.disk_theory.specs.declared.place.Place.TheVariants.{Doomed}
 use Rattle.disk_theory.specs.State.{State, standing}
-use Rattle.file_handles.specs.Held.{IsEntryOf, IsHeldAs}
-use Rattle.file_handles.specs.HeldChunks.{ChunksStand, IsChunkInUse, KeepsChunks}
-use Rattle.file_handles.specs.Kept.{Kept, object_at, with_object}
-use Rattle.file_handles.specs.Stands.{HandlesStand, IsAt, IsObjectOf, Stands}
-use Rattle.file_handles.specs.declared.object.Entry.{Entry as HeldEntry}
-use Rattle.file_handles.specs.declared.object.Entry.TheVariants as entry
-use Rattle.file_handles.specs.declared.object.Object.{Object}
+use Rattle.handle_table.specs.Held.{IsEntryOf, IsHeldAs}
+use Rattle.handle_table.specs.HeldChunks.{ChunksStand, IsChunkInUse, KeepsChunks}
+use Rattle.handle_table.specs.Kept.{Kept, object_at, with_object}
+use Rattle.handle_table.specs.Standing.{HandlesStand, IsObjectOf}
+use Rattle.file_handles.specs.Stands.{IsAt, Stands}
+use Rattle.handle_table.specs.declared.object.Entry.{Entry as HeldEntry}
+use Rattle.handle_table.specs.declared.object.Entry.TheVariants as entry
+use Rattle.handle_table.specs.declared.object.Object.{Object}
 use Rattle.file_handles.proofs.Reading.HeldChunkLaws.{chunk_on, keeps_own}
-use Rattle.file_handles.proofs.KeptLaws.{object_set_here, object_set_other}
+use Rattle.handle_table.proofs.KeptLaws.{object_set_here, object_set_other}
 
 -- the object doomed, with this number among the doomed
 abbrev pub doomed_as : Object → ℕ → Object

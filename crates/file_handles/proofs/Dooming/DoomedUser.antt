@@ -21,16 +21,17 @@ use Rattle.disk_theory.specs.State.{State, renamed, standing}
 use Rattle.doom_area.specs.DoomArea.{IsLeastFree}
 use Rattle.doom_area.proofs.LeastFree.{lesser_more, long_enough}
 use Rattle.file_handles.specs.Cache.{cache_at}
-use Rattle.file_handles.specs.Dooming.{SetsAside, numbers_in}
-use Rattle.file_handles.specs.Finding.{is_user}
-use Rattle.file_handles.specs.Kept.{Kept, object_at, with_object}
+use Rattle.handle_table.specs.Aside.{numbers_in}
+use Rattle.file_handles.specs.Dooming.{SetsAside}
+use Rattle.handle_table.specs.Finding.{is_user}
+use Rattle.handle_table.specs.Kept.{Kept, object_at, with_object}
 use Rattle.file_handles.specs.Stands.{KeepsWhere, RepresentsSome}
-use Rattle.file_handles.specs.declared.object.Object.{Object}
+use Rattle.handle_table.specs.declared.object.Object.{Object}
 use Rattle.file_handles.proofs.Dooming.DoomedKeeps.{dooms_aside, dooms_user}
 use Rattle.file_handles.proofs.Dooming.DoomedStands.{doomed_as}
 use Rattle.file_handles.proofs.Histories.{history_of}
 use Rattle.file_handles.proofs.Places.{published_there}
-use Rattle.file_handles.proofs.Finding.User.{user_is_used}
+use Rattle.handle_table.proofs.User.{user_is_used}
 
 -- the file of the object in use of a name stands there, if it does not stand aside
 pub user_stands : (s : State) (k : Kept) (name : Name) (p : ℕ) (x : Object) → position (is_user name) k.objects ≡ Some p → object_at k p ≡ Some x → x.aside ≡ None → RepresentsSome (cache_at k s) → IsSome (standing s (Entry name))

@@ -11,14 +11,14 @@ use Rattle.disk_theory.specs.declared.disk.DiskFault.{DiskFault}
 use Rattle.disk_theory.specs.declared.place.Place.TheVariants.{Entry}
 use Rattle.file_handles.specs.Cache.{cache_at}
 use Rattle.file_handles.specs.Dooming.{DoomsUnder}
-use Rattle.file_handles.specs.Kept.{Kept}
+use Rattle.handle_table.specs.Kept.{Kept}
 use Rattle.file_handles.specs.Stands.{KeepsWhere, ReachesHistory}
-use Rattle.file_handles.specs.Users.{users_of}
+use Rattle.handle_table.specs.Users.{users_of}
 use Rattle.file_handles.proofs.Dooming.DoomedBut.{removed_in, undoomed_but}
 use Rattle.file_handles.proofs.Dooming.DoomedCommand.{removed_or_not}
 use Rattle.file_handles.proofs.Histories.{history_of}
-use Rattle.file_handles.proofs.Dooming.SlotUsers.{unused_none}
-use Rattle.file_handles.proofs.Finding.User.{no_user_there}
+use Rattle.handle_table.proofs.SlotUsers.{unused_none}
+use Rattle.handle_table.proofs.User.{no_user_there}
 
 module _ (s : State) (k : Kept) (name : Name) (unused : users_of k name ≡ 0) (crash : Bool) (h : History)
     (touched : is_touched h.marks name.0 ≡ true) (keeps : KeepsWhere crash (cache_at k s) h) where

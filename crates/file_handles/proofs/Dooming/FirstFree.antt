@@ -20,11 +20,12 @@ use Rattle.disk_theory.proofs.Standing.{added_puts}
 use Rattle.doom_area.specs.DoomArea.{IsLeastFree}
 use Rattle.doom_area.proofs.LeastFree.{long_enough}
 use Rattle.file_handles.specs.Cache.{cache_at}
-use Rattle.file_handles.specs.Dooming.{IsFirstFree, SetsAside, TakesFirstFree, number_in, numbers_in}
-use Rattle.file_handles.specs.Held.{place_of}
-use Rattle.file_handles.specs.Kept.{Kept, object_at}
+use Rattle.handle_table.specs.Aside.{number_in, numbers_in}
+use Rattle.file_handles.specs.Dooming.{IsFirstFree, SetsAside, TakesFirstFree}
+use Rattle.handle_table.specs.Held.{place_of}
+use Rattle.handle_table.specs.Kept.{Kept, object_at}
 use Rattle.file_handles.specs.Stands.{RepresentsSome}
-use Rattle.file_handles.specs.declared.object.Object.{Object}
+use Rattle.handle_table.specs.declared.object.Object.{Object}
 use Rattle.file_handles.proofs.Dooming.AsidePlaces.{one_doomed}
 use Rattle.file_handles.proofs.Dooming.DoomedUser.{least_free}
 use Rattle.file_handles.proofs.Places.{file_stands}

@@ -18,13 +18,13 @@ use Rattle.disk_theory.specs.declared.place.Place.TheVariants.{Entry}
 use Rattle.disk_theory.specs.State.{State, removed, standing}
 use Rattle.file_handles.specs.Cache.{cache_at}
 use Rattle.file_handles.specs.Dooming.{DoomsUnder}
-use Rattle.file_handles.specs.Finding.{is_user}
-use Rattle.file_handles.specs.Kept.{Kept}
+use Rattle.handle_table.specs.Finding.{is_user}
+use Rattle.handle_table.specs.Kept.{Kept}
 use Rattle.file_handles.specs.Stands.{KeepsWhere}
 use Rattle.file_handles.specs.declared.fault.HandleFault.{HandleFault}
 use Rattle.file_handles.proofs.Dooming.DoomedBut.{IsInBut, none_in, removed_in, undoomed_but}
 use Rattle.file_handles.proofs.Histories.{history_of}
-use Rattle.file_handles.proofs.Finding.User.{no_user_there}
+use Rattle.handle_table.proofs.User.{no_user_there}
 
 module _ (s t : State) (k : Kept) (name : Name) (bare : position (is_user name) k.objects ≡ None) where
   module _ {b : Bool} (h : History) (touched : is_touched h.marks name.0 ≡ true) (stand : KeepsWhere b (cache_at k s) h) where

@@ -8,9 +8,9 @@ use Rattle.entry_name.specs.EntryName.{file_name}
 use Rattle.file_handles.specs.Creating.{MayHaveRemoved}
 use Rattle.file_handles.specs.Dooming.{IsUnfinishedAt, IsUnfinishedFor, TakesEntry, TakesFirstFree}
 use Rattle.file_handles.proofs.Dooming.FirstFree.{takes_none}
-use Rattle.file_handles.specs.Kept.{Kept}
+use Rattle.handle_table.specs.Kept.{Kept}
 use Rattle.file_handles.specs.declared.fault.HandleFault.{HandleFault}
-use Rattle.file_handles.specs.Loading.{used_place, user_place}
+use Rattle.handle_table.specs.Finding.{used_place, user_place}
 use Rattle.file_handles.proofs.Finding.FoundUser.{used_at}
 
 -- the name of a key, by its bytes

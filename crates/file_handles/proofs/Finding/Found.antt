@@ -24,8 +24,9 @@ use Rattle.entry_metadata.specs.declared.meta.Meta.{Meta}
 use Rattle.entry_name.specs.EntryName.{file_name}
 use Rattle.file_handles.specs.Cache.{cache_at}
 use Rattle.file_handles.specs.Found.{Finds, FindsIn}
-use Rattle.file_handles.specs.Kept.{Kept}
-use Rattle.file_handles.specs.Loading.{LoadsAs, is_writing}
+use Rattle.handle_table.specs.Kept.{Kept}
+use Rattle.handle_table.specs.Finding.{is_writing}
+use Rattle.file_handles.specs.Loading.{LoadsAs}
 use Rattle.file_handles.specs.Stands.{Stands}
 use Rattle.file_handles.specs.declared.fault.HandleFault.{HandleFault}
 use Rattle.file_handles.specs.declared.fault.HandleFault.TheVariants as fault

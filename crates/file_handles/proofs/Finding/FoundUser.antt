@@ -1,27 +1,21 @@
 -- The place of the object in use of a key, and the machine's object of the key.
-use Rattle.std.proofs.Common.{◌≡◌, ◌∙◌, ℕ, ◌<◌, List, Bool, true, false, not, Option, Some, None, IsSome, length, refl, sym, ap, subst}
+use Rattle.std.proofs.Common.{◌≡◌, ◌∙◌, ℕ, List, Bool, true, false, not, Option, Some, None, IsSome, refl, sym, ap, subst}
 use Rattle.std.specs.List.{position}
 use Rattle.std.specs.Prelude.{if◌then◌else◌, option_and_then, option_map, unwrap_or}
 use Rattle.std.specs.Str.{bytes_eq}
-use Rattle.std.proofs.lemmas.List.Quantifiers.{position-Some}
 use Rattle.cache_base.specs.declared.name.Name.{Name}
 use Rattle.cache_theory.specs.Machine.{Machine, object, used_by}
 use Rattle.cache_theory.specs.Proper.{IsProper}
 use Rattle.cache_theory.specs.Table.{get}
 use Rattle.entry_name.specs.EntryName.{file_name}
-use Rattle.file_handles.specs.Finding.{is_user}
-use Rattle.file_handles.specs.Held.{is_draft, key_in}
-use Rattle.file_handles.specs.Kept.{Kept}
-use Rattle.file_handles.specs.Loading.{if_key, is_draft_at, is_writing, used_place}
-use Rattle.file_handles.specs.Stands.{HandlesStand}
-use Rattle.file_handles.specs.declared.object.Object.{Object}
+use Rattle.handle_table.specs.Finding.{if_key, is_draft_at, is_user, is_writing, used_place}
+use Rattle.handle_table.specs.Held.{is_draft, key_in}
+use Rattle.handle_table.specs.Kept.{Kept}
+use Rattle.handle_table.specs.Standing.{HandlesStand}
+use Rattle.handle_table.specs.declared.object.Object.{Object}
 use Rattle.file_handles.proofs.Setting.ElementEntries.{key_is}
 use Rattle.file_handles.proofs.Setting.ElementEntries.{finished_is}
-use Rattle.file_handles.proofs.Finding.User.{IsUserAt, no_user_there, user_found, user_is_used}
-
--- a place that a search found is one of the list
-pub found_within : (test : Option Object → Bool) (objects : List (Option Object)) (p : ℕ) → position test objects ≡ Some p → p < length objects
-found_within test objects p is = (position-Some test objects p None is).0
+use Rattle.handle_table.proofs.User.{IsUserAt, no_user_there, user_found, user_is_used}
 
 -- the place, where the key is this
 abbrev place_if : List ℕ → List ℕ → ℕ → Option ℕ

@@ -18,10 +18,10 @@ use Rattle.entry_parts.specs.Elements.{Element}
 use Rattle.entry_parts.specs.declared.header.Header.{Header}
 use Rattle.file_handles.specs.Changes.{IsFiledAs, IsMomentOf}
 use Rattle.file_handles.specs.Publishing.{BecomesWhole, aside_by}
-use Rattle.file_handles.specs.Held.{IsDraftOf, IsEntryOf, IsHeldAs, object_place, object_with}
-use Rattle.file_handles.specs.declared.object.Draft.{Draft}
-use Rattle.file_handles.specs.declared.object.Entry.TheVariants as entry
-use Rattle.file_handles.specs.declared.object.Object.{Object}
+use Rattle.handle_table.specs.Held.{IsDraftOf, IsEntryOf, IsHeldAs, object_place, object_with}
+use Rattle.handle_table.specs.declared.object.Draft.{Draft}
+use Rattle.handle_table.specs.declared.object.Entry.TheVariants as entry
+use Rattle.handle_table.specs.declared.object.Object.{Object}
 use Rattle.file_handles.proofs.Finishing.Completions.{IsCompletion}
 use Rattle.file_handles.proofs.Reading.HeldChunkLaws.{keeps_completed}
 use Rattle.file_handles.proofs.Changed.{writes_weaker}

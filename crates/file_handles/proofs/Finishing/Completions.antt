@@ -3,9 +3,9 @@ use Rattle.std.proofs.Common.{◌≡◌, length, true, Option, Some, None, refl,
 use Rattle.cache_theory.specs.Machine.{Object as MachineObject}
 use Rattle.entry_file.specs.NewEntry.{finished}
 use Rattle.file_handles.specs.Finishing.{completed_by, parts_by}
-use Rattle.file_handles.specs.Held.{IsDraftOf}
-use Rattle.file_handles.specs.declared.object.Draft.{Draft}
-use Rattle.file_handles.specs.declared.object.Parts.{Parts}
+use Rattle.handle_table.specs.Held.{IsDraftOf}
+use Rattle.handle_table.specs.declared.object.Draft.{Draft}
+use Rattle.handle_table.specs.declared.object.Parts.{Parts}
 
 -- it finishes the object, and changes neither its key nor its body nor whether it is doomed
 pub record IsCompletion (change : MachineObject → MachineObject) : Type 0 where

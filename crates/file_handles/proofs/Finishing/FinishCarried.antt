@@ -15,16 +15,16 @@ use Rattle.file_handles.specs.Answers.{OnRefused, done_or}
 use Rattle.file_handles.specs.Cache.{cache_at}
 use Rattle.file_handles.specs.Carries.{CarriesOut}
 use Rattle.file_handles.specs.Changes.{IsFiledAs}
-use Rattle.file_handles.specs.Held.{IsEntryOf, is_draft}
-use Rattle.file_handles.specs.Kept.{Kept, object_at, with_object}
+use Rattle.handle_table.specs.Held.{IsEntryOf, is_draft}
+use Rattle.handle_table.specs.Kept.{Kept, object_at, with_object}
 use Rattle.file_handles.specs.Publishing.{BecomesWhole, Completes, CompletesAt, published_by}
-use Rattle.file_handles.specs.Refuses.{HasAt}
+use Rattle.handle_table.specs.Refuses.{HasAt}
 use Rattle.file_handles.specs.Stands.{KeepsWhere}
 use Rattle.file_handles.specs.declared.fault.HandleFault.{HandleFault}
 use Rattle.file_handles.specs.declared.fault.HandleFault.TheVariants as fault
-use Rattle.file_handles.specs.declared.object.Entry.{Entry}
-use Rattle.file_handles.specs.declared.object.Entry.TheVariants as entry
-use Rattle.file_handles.specs.declared.object.Object.{Object}
+use Rattle.handle_table.specs.declared.object.Entry.{Entry}
+use Rattle.handle_table.specs.declared.object.Entry.TheVariants as entry
+use Rattle.handle_table.specs.declared.object.Object.{Object}
 use Rattle.file_handles.proofs.Begun.{begun_in}
 use Rattle.file_handles.proofs.Carried.{MakesChangeAt, change_made, change_may, change_out}
 use Rattle.file_handles.proofs.Finishing.Completions.{IsCompletion}

@@ -11,10 +11,10 @@ use Rattle.entry_file.specs.Held.{held}
 use Rattle.entry_file.specs.NewEntry.{HasBody}
 use Rattle.entry_file.specs.Unfinished.{IsUnfinished}
 use Rattle.file_handles.specs.Changes.{Becomes, IsFiledAs, IsMomentOf, appended}
-use Rattle.file_handles.specs.Held.{IsDraftOf, IsEntryOf, object_place}
-use Rattle.file_handles.specs.declared.object.Draft.{Draft}
-use Rattle.file_handles.specs.declared.object.Entry.TheVariants as entry
-use Rattle.file_handles.specs.declared.object.Object.{Object}
+use Rattle.handle_table.specs.Held.{IsDraftOf, IsEntryOf, object_place}
+use Rattle.handle_table.specs.declared.object.Draft.{Draft}
+use Rattle.handle_table.specs.declared.object.Entry.TheVariants as entry
+use Rattle.handle_table.specs.declared.object.Object.{Object}
 use Rattle.file_handles.proofs.Reading.HeldChunkLaws.{keeps_appended}
 use Rattle.file_handles.proofs.Changed.{writes_weaker}
 

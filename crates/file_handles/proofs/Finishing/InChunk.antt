@@ -10,13 +10,13 @@ use Rattle.cache_theory.specs.Step.{effect, step, stepped}
 use Rattle.entry_file.specs.Held.{held}
 use Rattle.entry_file.proofs.Bodies.{rest_long}
 use Rattle.file_handles.specs.Growing.{FitsInChunk}
-use Rattle.file_handles.specs.Held.{IsEntryOf, rest_in}
-use Rattle.file_handles.specs.Kept.{Kept}
-use Rattle.file_handles.specs.Refuses.{HasAt}
-use Rattle.file_handles.specs.Stands.{HandlesStand}
-use Rattle.file_handles.specs.declared.object.Entry.{Entry}
-use Rattle.file_handles.specs.declared.object.Entry.TheVariants as entry
-use Rattle.file_handles.specs.declared.object.Object.{Object}
+use Rattle.handle_table.specs.Held.{IsEntryOf, rest_in}
+use Rattle.handle_table.specs.Kept.{Kept}
+use Rattle.handle_table.specs.Refuses.{HasAt}
+use Rattle.handle_table.specs.Standing.{HandlesStand}
+use Rattle.handle_table.specs.declared.object.Entry.{Entry}
+use Rattle.handle_table.specs.declared.object.Entry.TheVariants as entry
+use Rattle.handle_table.specs.declared.object.Object.{Object}
 use Rattle.file_handles.proofs.Setting.ElementSlots.{there_held, there_object}
 
 -- what is not on the disk of a body is no more than what its last chunk has

@@ -34,13 +34,13 @@ use Rattle.entry_file.proofs.EntryLaws.{is_file_of}
 use Rattle.entry_name.specs.EntryName.{file_name}
 use Rattle.file_handles.specs.Cache.{cache_at}
 use Rattle.file_handles.specs.Changes.{IsMomentOf}
-use Rattle.file_handles.specs.Held.{IsHeldAs, object_place, place_of}
-use Rattle.file_handles.specs.HeldChunks.{KeepsChunks}
-use Rattle.file_handles.specs.Kept.{Kept, object_at, with_object}
+use Rattle.handle_table.specs.Held.{IsHeldAs, object_place, place_of}
+use Rattle.handle_table.specs.HeldChunks.{KeepsChunks}
+use Rattle.handle_table.specs.Kept.{Kept, object_at, with_object}
 use Rattle.file_handles.specs.Publishing.{BecomesWhole, IsAmidPublishing, aside_by, published, published_by}
 use Rattle.file_handles.specs.Publishing.IsAmidPublishing.{Published, Synced, Unsynced}
 use Rattle.file_handles.specs.Stands.{IsAt, KeepsWhere}
-use Rattle.file_handles.specs.declared.object.Object.{Object}
+use Rattle.handle_table.specs.declared.object.Object.{Object}
 use Rattle.file_handles.proofs.Dooming.AsidePlaces.{one_doomed}
 use Rattle.file_handles.proofs.Changed.{file_of_it, wrote_in, writes_weaker}
 use Rattle.file_handles.proofs.ChangedHandles.{IsChangedTo, handles_on, other_at, own_at, own_now, unburied_on, under_on, was_other}

@@ -17,11 +17,11 @@ use Rattle.cache_theory.proofs.Versions.{object_appended, object_finished, objec
 use Rattle.file_handles.specs.Changes.{appended, completed}
 use Rattle.file_handles.specs.Effects.{HasEffect, IsLearntOf, learnt, learnt_at}
 use Rattle.file_handles.specs.Finishing.{AreParts, completed_by, finish_command}
-use Rattle.file_handles.specs.Kept.{Kept, object_at}
-use Rattle.file_handles.specs.Refuses.{HasAt, Passes}
+use Rattle.handle_table.specs.Kept.{Kept, object_at}
+use Rattle.handle_table.specs.Refuses.{HasAt, Passes}
 use Rattle.file_handles.specs.declared.fault.Effect.{Effect}
-use Rattle.file_handles.specs.declared.object.Object.{Object}
-use Rattle.file_handles.specs.declared.object.Parts.{Parts}
+use Rattle.handle_table.specs.declared.object.Object.{Object}
+use Rattle.handle_table.specs.declared.object.Parts.{Parts}
 use Rattle.file_handles.proofs.Carried.{MakesChange, MakesChangeAt}
 use Rattle.file_handles.proofs.Changed.{MayGoOut}
 use Rattle.file_handles.proofs.EffectLaws.{change_effect}

@@ -17,15 +17,15 @@ use Rattle.entry_metadata.specs.Metadata.{block_length}
 use Rattle.entry_parts.specs.Elements.{elements_bytes}
 use Rattle.file_handles.specs.Finishing.{finish_command, finish_fault, size_fault}
 use Rattle.file_handles.specs.Growing.{grow_fault}
-use Rattle.file_handles.specs.Held.{IsEntryOf, is_draft}
-use Rattle.file_handles.specs.Kept.{Kept, object_at, use_at, writing}
-use Rattle.file_handles.specs.Refuses.{EndsIn, Refuses}
-use Rattle.file_handles.specs.Stands.{HandlesStand}
-use Rattle.file_handles.specs.declared.object.Entry.{Entry}
-use Rattle.file_handles.specs.declared.object.Entry.TheVariants as entry
-use Rattle.file_handles.specs.declared.object.Object.{Object}
-use Rattle.file_handles.specs.declared.object.Parts.{Parts}
-use Rattle.file_handles.specs.declared.object.Use.{Use}
+use Rattle.handle_table.specs.Held.{IsEntryOf, is_draft}
+use Rattle.handle_table.specs.Kept.{Kept, object_at, use_at, writing}
+use Rattle.handle_table.specs.Refuses.{EndsIn, Refuses}
+use Rattle.handle_table.specs.Standing.{HandlesStand}
+use Rattle.handle_table.specs.declared.object.Entry.{Entry}
+use Rattle.handle_table.specs.declared.object.Entry.TheVariants as entry
+use Rattle.handle_table.specs.declared.object.Object.{Object}
+use Rattle.handle_table.specs.declared.object.Parts.{Parts}
+use Rattle.handle_table.specs.declared.object.Use.{Use}
 use Rattle.file_handles.proofs.Setting.ElementEntries.{body_len_is, key_is}
 use Rattle.file_handles.proofs.Setting.ElementSlots.{no_slot, slot_is, slot_number, slot_writes}
 

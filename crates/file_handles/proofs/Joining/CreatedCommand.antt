@@ -22,14 +22,15 @@ use Rattle.entry_key.specs.Writing.{may_write}
 use Rattle.entry_name.specs.EntryName.{file_name}
 use Rattle.file_handles.specs.Cache.{cache_at}
 use Rattle.file_handles.specs.Carries.{CarriesOutAt}
-use Rattle.file_handles.specs.Dooming.{DoomsUnder, numbers_in}
-use Rattle.file_handles.specs.Held.{IsHeldAs}
-use Rattle.file_handles.specs.Joining.{AddsObject}
-use Rattle.file_handles.specs.Kept.{Kept, use_at, used}
+use Rattle.handle_table.specs.Aside.{numbers_in}
+use Rattle.file_handles.specs.Dooming.{DoomsUnder}
+use Rattle.handle_table.specs.Held.{IsHeldAs}
+use Rattle.handle_table.specs.Joining.{AddsObject}
+use Rattle.handle_table.specs.Kept.{Kept, use_at, used}
 use Rattle.file_handles.specs.Stands.{KeepsWhere, RepresentsSome}
 use Rattle.file_handles.specs.declared.fault.HandleFault.{HandleFault}
-use Rattle.file_handles.specs.declared.object.Object.{Object}
-use Rattle.file_handles.specs.declared.object.Use.{Use}
+use Rattle.handle_table.specs.declared.object.Object.{Object}
+use Rattle.handle_table.specs.declared.object.Use.{Use}
 use Rattle.file_handles.proofs.Begun.{begun_in}
 use Rattle.file_handles.proofs.Joining.CreatedIn.{created_in, made_safe}
 use Rattle.file_handles.proofs.Dooming.DoomedCarried.{done_in, touched_first, touches_name}

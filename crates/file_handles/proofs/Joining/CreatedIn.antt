@@ -14,12 +14,12 @@ use Rattle.disk_theory.specs.Standing.{PutsContent}
 use Rattle.disk_theory.specs.State.{State, created, empty_file}
 use Rattle.disk_theory.proofs.Standing.{added_puts}
 use Rattle.file_handles.specs.Cache.{cache_at}
-use Rattle.file_handles.specs.Dooming.{number_in, numbers_in}
-use Rattle.file_handles.specs.Kept.{Kept, with_new, with_use}
+use Rattle.handle_table.specs.Aside.{number_in, numbers_in}
+use Rattle.handle_table.specs.Kept.{Kept, with_new, with_use}
 use Rattle.file_handles.specs.Stands.{IsAt, KeepsWhere}
-use Rattle.file_handles.specs.declared.object.Object.{Object}
-use Rattle.file_handles.specs.declared.object.Use.{Use}
-use Rattle.file_handles.proofs.Dooming.DoomedNumbers.{number_of_doomed}
+use Rattle.handle_table.specs.declared.object.Object.{Object}
+use Rattle.handle_table.specs.declared.object.Use.{Use}
+use Rattle.handle_table.proofs.AsideNumbers.{number_of_doomed}
 use Rattle.file_handles.proofs.Histories.{history_of}
 use Rattle.file_handles.proofs.Joining.JoinedObject.{MayAdd, aside_created, crash_created, handles_added, numbers}
 

@@ -29,16 +29,17 @@ use Rattle.disk_theory.specs.Standing.{PutsContent}
 use Rattle.disk_theory.specs.State.{State, created, names_now, standing}
 use Rattle.disk_theory.specs.declared.place.Place.TheVariants.{Doomed}
 use Rattle.disk_theory.proofs.Places.{is_same-apart, is_same-refl}
-use Rattle.file_handles.specs.Held.{IsHeldAs}
-use Rattle.file_handles.specs.HeldChunks.{ChunksStand, IsChunkInUse}
-use Rattle.file_handles.specs.Kept.{Kept, object_at, use_at, with_new, with_use}
-use Rattle.file_handles.specs.Stands.{HandlesStand, IsAt, IsObjectOf, slot_of}
-use Rattle.file_handles.specs.declared.object.Object.{Object}
-use Rattle.file_handles.specs.declared.object.Use.{Use}
+use Rattle.handle_table.specs.Held.{IsHeldAs}
+use Rattle.handle_table.specs.HeldChunks.{ChunksStand, IsChunkInUse}
+use Rattle.handle_table.specs.Kept.{Kept, object_at, use_at, with_new, with_use}
+use Rattle.handle_table.specs.Standing.{HandlesStand, IsObjectOf, slot_of}
+use Rattle.file_handles.specs.Stands.{IsAt}
+use Rattle.handle_table.specs.declared.object.Object.{Object}
+use Rattle.handle_table.specs.declared.object.Use.{Use}
 use Rattle.file_handles.proofs.Dooming.AsidePlaces.{one_doomed}
 use Rattle.file_handles.proofs.Reading.HeldChunkLaws.{chunk_on, keeps_own}
 use Rattle.file_handles.proofs.Joining.JoinedSlots.{same_place, use_set_here, use_set_other}
-use Rattle.file_handles.proofs.KeptLaws.{object_set_here, object_set_other}
+use Rattle.handle_table.proofs.KeptLaws.{object_set_here, object_set_other}
 
 -- the object x that is the machine's new one may be added there
 pub record MayAdd (k : Kept) (m : Machine) (slot : ℕ) (writes : Bool) (o : MachineObject) (x : Object) (p : ℕ) (u : Use) : Type 0 where

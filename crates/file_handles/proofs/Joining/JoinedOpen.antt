@@ -30,16 +30,19 @@ use Rattle.entry_name.specs.EntryName.{file_name}
 use Rattle.file_handles.specs.Answers.{done_or, reply_in}
 use Rattle.file_handles.specs.Cache.{cache_at}
 use Rattle.file_handles.specs.Carries.{CarriesOut}
-use Rattle.file_handles.specs.Held.{IsHeldAs}
-use Rattle.file_handles.specs.Joining.{AddsObject, AddsTo, JoinsAt}
-use Rattle.file_handles.specs.Kept.{Kept, use_at, used, with_new, with_use}
-use Rattle.file_handles.specs.Loading.{LoadsAs, used_place}
-use Rattle.file_handles.specs.Stands.{HandlesStand, KeepsWhere, Stands}
+use Rattle.handle_table.specs.Held.{IsHeldAs}
+use Rattle.handle_table.specs.Joining.{AddsObject, JoinsAt}
+use Rattle.file_handles.specs.Joining.{AddsTo}
+use Rattle.handle_table.specs.Kept.{Kept, use_at, used, with_new, with_use}
+use Rattle.handle_table.specs.Finding.{used_place}
+use Rattle.file_handles.specs.Loading.{LoadsAs}
+use Rattle.handle_table.specs.Standing.{HandlesStand}
+use Rattle.file_handles.specs.Stands.{KeepsWhere, Stands}
 use Rattle.file_handles.specs.declared.fault.HandleFault.{HandleFault}
 use Rattle.file_handles.specs.declared.fault.HandleFault.TheVariants as fault
-use Rattle.file_handles.specs.declared.object.Entry.TheVariants as entry
-use Rattle.file_handles.specs.declared.object.Object.{Object}
-use Rattle.file_handles.specs.declared.object.Use.{Use}
+use Rattle.handle_table.specs.declared.object.Entry.TheVariants as entry
+use Rattle.handle_table.specs.declared.object.Object.{Object}
+use Rattle.handle_table.specs.declared.object.Use.{Use}
 use Rattle.file_handles.proofs.Begun.{begun_in}
 use Rattle.file_handles.proofs.Setting.ElementSlots.{no_slot, slot_is}
 use Rattle.file_handles.proofs.Finding.FoundShelf.{shelf_read}

@@ -12,10 +12,11 @@ use Rattle.cache_theory.proofs.ObjectLaws.Slots.{free_is_none, slot_kept, use_of
 use Rattle.cache_theory.proofs.ObjectLaws.Users.{in_use_along}
 use Rattle.disk_theory.specs.State.{State, standing}
 use Rattle.file_handles.specs.Cache.{cache_at}
-use Rattle.file_handles.specs.Kept.{Kept, object_at, with_use}
-use Rattle.file_handles.specs.Stands.{HandlesStand, IsAt, KeepsWhere, slot_of}
-use Rattle.file_handles.specs.declared.object.Object.{Object}
-use Rattle.file_handles.specs.declared.object.Use.{Use}
+use Rattle.handle_table.specs.Kept.{Kept, object_at, with_use}
+use Rattle.handle_table.specs.Standing.{HandlesStand, slot_of}
+use Rattle.file_handles.specs.Stands.{IsAt, KeepsWhere}
+use Rattle.handle_table.specs.declared.object.Object.{Object}
+use Rattle.handle_table.specs.declared.object.Use.{Use}
 use Rattle.file_handles.proofs.Reading.HeldChunkLaws.{chunks_on}
 use Rattle.file_handles.proofs.Histories.{history_of}
 use Rattle.file_handles.proofs.Joining.JoinedSlots.{same_place, use_set_here, use_set_other}

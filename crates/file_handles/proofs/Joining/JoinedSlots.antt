@@ -2,8 +2,8 @@
 use Rattle.std.proofs.Common.{◌≡◌, ◌≢◌, ℕ, ◌<◌, length, Option, Some, None, sym, ap, ◌∙◌, get_or-set_same, get_or-set_other}
 use Rattle.std.specs.Prelude.{option_map, slice_set, unwrap_or}
 use Rattle.std.proofs.lemmas.Option.{unwrap_or-slice_get}
-use Rattle.file_handles.specs.Kept.{Kept, use_at, with_use}
-use Rattle.file_handles.specs.declared.object.Use.{Use}
+use Rattle.handle_table.specs.Kept.{Kept, use_at, with_use}
+use Rattle.handle_table.specs.declared.object.Use.{Use}
 
 pub use_set_here : (k : Kept) (s t : ℕ) (u : Option Use) → s < length k.slots → t ≡ s → use_at (with_use k s u) t ≡ u
 use_set_here k s t u within same = ap (use_at (with_use k s u)) same ∙ unwrap_or-slice_get (slice_set k.slots s u) s None ∙ get_or-set_same k.slots s u None within

@@ -17,14 +17,14 @@ use Rattle.entry_metadata.specs.Metadata.{Meta as Said, block_length}
 use Rattle.entry_metadata.specs.declared.meta.Meta.{Meta}
 use Rattle.entry_parts.specs.Elements.{Element, element, elements_bytes}
 use Rattle.entry_parts.specs.Setting.{has_zero, set_fault}
-use Rattle.file_handles.specs.Held.{IsEntryOf}
-use Rattle.file_handles.specs.Kept.{Kept, object_at, use_at, writing}
+use Rattle.handle_table.specs.Held.{IsEntryOf}
+use Rattle.handle_table.specs.Kept.{Kept, object_at, use_at, writing}
 use Rattle.file_handles.specs.PuttingAlt.{are_small_with, put_fault, with_alt_at}
-use Rattle.file_handles.specs.Refuses.{EndsIn, Refuses}
-use Rattle.file_handles.specs.declared.object.Entry.{Entry}
-use Rattle.file_handles.specs.declared.object.Entry.TheVariants as entry
-use Rattle.file_handles.specs.declared.object.Object.{Object}
-use Rattle.file_handles.specs.declared.object.Use.{Use}
+use Rattle.handle_table.specs.Refuses.{EndsIn, Refuses}
+use Rattle.handle_table.specs.declared.object.Entry.{Entry}
+use Rattle.handle_table.specs.declared.object.Entry.TheVariants as entry
+use Rattle.handle_table.specs.declared.object.Object.{Object}
+use Rattle.handle_table.specs.declared.object.Use.{Use}
 use Rattle.file_handles.proofs.Setting.ElementLengths.{added_length}
 use Rattle.file_handles.proofs.Finishing.Writers.{is_writing, no_writer, object_is}
 

@@ -40,20 +40,21 @@ use Rattle.file_handles.specs.Cache.{cache_at}
 use Rattle.file_handles.specs.Carries.{CarriesOut}
 use Rattle.file_handles.specs.Changes.{Becomes, ChangesAt, ChangesThere, IsFiledAs, IsFiledAt}
 use Rattle.file_handles.specs.Effects.{HasEffect, IsLearntOf}
-use Rattle.file_handles.specs.Held.{IsHeldAs, body_len_in, is_draft, object_place}
-use Rattle.file_handles.specs.HeldChunks.{IsChunkInUse}
-use Rattle.file_handles.specs.Kept.{Kept, object_at, object_in, with_object, without_chunks}
+use Rattle.handle_table.specs.Held.{IsHeldAs, body_len_in, is_draft, object_place}
+use Rattle.handle_table.specs.HeldChunks.{IsChunkInUse}
+use Rattle.handle_table.specs.Kept.{Kept, object_at, object_in, with_object, without_chunks}
 use Rattle.file_handles.specs.PuttingAlt.{HasVersion, IsPutBehind, KeepsMainBody, MayPut, PutsAlt, PutsThere, put_fault}
-use Rattle.file_handles.specs.Refuses.{HasAt, Passes}
-use Rattle.file_handles.specs.Stands.{HandlesStand, KeepsWhere}
+use Rattle.handle_table.specs.Refuses.{HasAt, Passes}
+use Rattle.handle_table.specs.Standing.{HandlesStand}
+use Rattle.file_handles.specs.Stands.{KeepsWhere}
 use Rattle.file_handles.specs.Unsynced.{SyncsNothing}
 use Rattle.file_handles.specs.declared.fault.Effect.{Effect}
 use Rattle.file_handles.specs.declared.fault.HandleFault.{HandleFault}
 use Rattle.file_handles.specs.declared.fault.HandleFault.TheVariants as fault
-use Rattle.file_handles.specs.declared.object.Entry.{Entry}
-use Rattle.file_handles.specs.declared.object.Entry.TheVariants.{Draft, Finished}
-use Rattle.file_handles.specs.declared.object.Object.{Object}
-use Rattle.file_handles.specs.declared.object.Use.{Use}
+use Rattle.handle_table.specs.declared.object.Entry.{Entry}
+use Rattle.handle_table.specs.declared.object.Entry.TheVariants.{Draft, Finished}
+use Rattle.handle_table.specs.declared.object.Object.{Object}
+use Rattle.handle_table.specs.declared.object.Use.{Use}
 use Rattle.file_handles.proofs.PuttingAlt.AltChecks.{MayPutOf, may_put_of}
 use Rattle.file_handles.proofs.Carried.{MakesChangeAt, change_where}
 use Rattle.file_handles.proofs.Changed.{MayGoOut}

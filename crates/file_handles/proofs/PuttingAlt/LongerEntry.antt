@@ -28,13 +28,13 @@ use Rattle.entry_parts.specs.Elements.{elements_bytes}
 use Rattle.index_record.specs.Filling.{record_of_meta}
 use Rattle.file_handles.specs.Changes.{Becomes, IsFiledAs, IsMomentOf, with_version}
 use Rattle.file_handles.specs.Effects.{file_len, learnt_of, learnt_of_held}
-use Rattle.file_handles.specs.Held.{IsEntryOf, IsHeldAs, body_len_in, object_place}
-use Rattle.file_handles.specs.HeldChunks.{HasNoneOf}
+use Rattle.handle_table.specs.Held.{IsEntryOf, IsHeldAs, body_len_in, object_place}
+use Rattle.handle_table.specs.HeldChunks.{HasNoneOf}
 use Rattle.file_handles.specs.PuttingAlt.{AreAsMany, AreHashesWith, with_alt_at}
 use Rattle.file_handles.specs.declared.fault.Effect.TheVariants as effect
-use Rattle.file_handles.specs.declared.object.Entry.{Entry}
-use Rattle.file_handles.specs.declared.object.Entry.TheVariants.{Finished}
-use Rattle.file_handles.specs.declared.object.Object.{Object}
+use Rattle.handle_table.specs.declared.object.Entry.{Entry}
+use Rattle.handle_table.specs.declared.object.Entry.TheVariants.{Finished}
+use Rattle.handle_table.specs.declared.object.Object.{Object}
 use Rattle.file_handles.proofs.Changed.{writes_weaker}
 use Rattle.file_handles.proofs.EffectLaws.{learnt_doomed, learnt_whole}
 

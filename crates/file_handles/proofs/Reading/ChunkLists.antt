@@ -4,7 +4,7 @@ use Rattle.std.specs.Option.{option_map_or}
 use Rattle.chunk_cache.specs.Cached.{CachedChunk, bytes_of, cached, first_with, is_chunk, looked_at, others, with_chunk, with_room}
 use Rattle.chunk_cache.proofs.Chunks.{is_own, others-none}
 use Rattle.chunk_cache.proofs.Lookups.{keep_after}
-use Rattle.file_handles.specs.HeldChunks.{PutsFirst}
+use Rattle.handle_table.specs.HeldChunks.{PutsFirst}
 
 module _ (number index : ℕ) where
   -- the chunk is not among the others, nor among some of them

@@ -7,12 +7,12 @@ use Rattle.std.proofs.lemmas.Option.{unwrap_or-slice_get}
 use Rattle.cache_base.specs.declared.limits.TheConstants.{SLOTS}
 use Rattle.chunk_cache.specs.Cached.{without_entry}
 use Rattle.file_handles.specs.Closing.{chunks_closed, chunks_left, without_object}
-use Rattle.file_handles.specs.Seats.{is_use_of}
-use Rattle.file_handles.specs.HeldChunks.{SameChunks}
-use Rattle.file_handles.specs.Kept.{Kept, number_at, object_at, use_at, with_object, with_use}
-use Rattle.file_handles.specs.declared.object.Object.{Object}
-use Rattle.file_handles.specs.declared.object.Use.{Use}
-use Rattle.file_handles.proofs.KeptLaws.{object_set_here, place_within}
+use Rattle.handle_table.specs.Seats.{is_use_of}
+use Rattle.handle_table.specs.HeldChunks.{SameChunks}
+use Rattle.handle_table.specs.Kept.{Kept, number_at, object_at, use_at, with_object, with_use}
+use Rattle.handle_table.specs.declared.object.Object.{Object}
+use Rattle.handle_table.specs.declared.object.Use.{Use}
+use Rattle.handle_table.proofs.KeptLaws.{object_set_here, place_within}
 
 -- a slot that is given up is not in use
 pub given_up : (k : Kept) (slot s : ℕ) → s ≡ slot → slot < length k.slots → use_at (with_use k s None) slot ≡ None

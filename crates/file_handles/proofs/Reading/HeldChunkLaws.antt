@@ -8,9 +8,9 @@ use Rattle.chunk_cache.specs.Cached.{CachedChunk}
 use Rattle.chunk_store.specs.Chunks.{chunk}
 use Rattle.entry_file.proofs.Bodies.{part_in_front}
 use Rattle.file_handles.specs.Changes.{appended}
-use Rattle.file_handles.specs.HeldChunks.{ChunksStand, IsChunkInUse, KeepsChunks, chunks_on_disk}
-use Rattle.file_handles.specs.Kept.{Kept, object_at}
-use Rattle.file_handles.specs.declared.object.Object.{Object}
+use Rattle.handle_table.specs.HeldChunks.{ChunksStand, IsChunkInUse, KeepsChunks, chunks_on_disk}
+use Rattle.handle_table.specs.Kept.{Kept, object_at}
+use Rattle.handle_table.specs.declared.object.Object.{Object}
 use Rattle.file_handles.proofs.Finishing.Completions.{IsCompletion}
 
 -- an object keeps its own chunks

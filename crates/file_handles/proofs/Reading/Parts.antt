@@ -14,12 +14,12 @@ use Rattle.cache_base.specs.Limits.{chunks}
 use Rattle.entry_file.proofs.EntryLaws.{file_begins}
 use Rattle.entry_file.proofs.Bodies.{part_in_front, rest_long, unfinished_front, unfinished_long}
 use Rattle.file_handles.proofs.Setting.ElementEntries.{body_len_is}
-use Rattle.file_handles.specs.Held.{IsEntryOf, body_len_in, rest_in}
-use Rattle.file_handles.specs.HeldChunks.{chunks_on_disk}
+use Rattle.handle_table.specs.Held.{IsEntryOf, body_len_in, rest_in}
+use Rattle.handle_table.specs.HeldChunks.{chunks_on_disk}
 use Rattle.file_handles.specs.Reading.{HasChunkOf, part_of_body, rest_part, stored_in}
-use Rattle.file_handles.specs.declared.object.Entry.{Entry}
-use Rattle.file_handles.specs.declared.object.Entry.TheVariants as entry
-use Rattle.file_handles.specs.declared.object.Object.{Object}
+use Rattle.handle_table.specs.declared.object.Entry.{Entry}
+use Rattle.handle_table.specs.declared.object.Entry.TheVariants as entry
+use Rattle.handle_table.specs.declared.object.Object.{Object}
 
 le_or : (m n : ℕ) → (m ≤ n) ⊎ (n < m)
 le_or m n = elim (cases_Bool (leb m n)) [ inl le ↦ inl (leb-true m n le) | inr past ↦ inr (leb-false m n past) ]

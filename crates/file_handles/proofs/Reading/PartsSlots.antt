@@ -8,14 +8,14 @@ use Rattle.cache_theory.specs.Machine.{Machine, object, object_of}
 use Rattle.cache_theory.specs.declared.refusal.Refusal.{Refusal}
 use Rattle.cache_theory.specs.declared.refusal.Refusal.TheVariants.{NoSlot}
 use Rattle.file_handles.specs.Answers.{OnRead, OnRefused}
-use Rattle.file_handles.specs.Held.{body_len_in}
-use Rattle.file_handles.specs.Kept.{Kept, object_at, use_at, used}
-use Rattle.file_handles.specs.Refuses.{Passes, Refuses}
-use Rattle.file_handles.specs.Stands.{HandlesStand, slot_of}
+use Rattle.handle_table.specs.Held.{body_len_in}
+use Rattle.handle_table.specs.Kept.{Kept, object_at, use_at, used}
+use Rattle.handle_table.specs.Refuses.{Passes, Refuses}
+use Rattle.handle_table.specs.Standing.{HandlesStand, slot_of}
 use Rattle.file_handles.specs.declared.fault.HandleFault.{HandleFault}
 use Rattle.file_handles.specs.declared.fault.HandleFault.TheVariants as fault
-use Rattle.file_handles.specs.declared.object.Object.{Object}
-use Rattle.file_handles.specs.declared.object.Use.{Use}
+use Rattle.handle_table.specs.declared.object.Object.{Object}
+use Rattle.handle_table.specs.declared.object.Use.{Use}
 use Rattle.file_handles.proofs.Setting.ElementSlots.{no_slot, no_use_found, slot_number, use_found}
 use Rattle.file_handles.proofs.Setting.ElementEntries.{body_len_is}
 

@@ -11,13 +11,14 @@ use Rattle.chunk_cache.proofs.Properties.{All-bytes_of, All-looked_at}
 use Rattle.chunk_store.specs.Chunks.{chunk}
 use Rattle.disk_theory.specs.State.{State, standing}
 use Rattle.file_handles.specs.Changes.{IsFiledAs}
-use Rattle.file_handles.specs.Held.{object_place}
-use Rattle.file_handles.specs.HeldChunks.{ChunksStand, HasChunk, IsChunkInUse}
-use Rattle.file_handles.specs.Kept.{Kept, object_at, object_in, use_at}
+use Rattle.handle_table.specs.Held.{object_place}
+use Rattle.handle_table.specs.HeldChunks.{ChunksStand, HasChunk, IsChunkInUse}
+use Rattle.handle_table.specs.Kept.{Kept, object_at, object_in, use_at}
 use Rattle.file_handles.specs.Reading.{ForChunk, HasChunkOf, IsOfChunk, IsPartHeld, IsStoredChunk, LosesNone, SameButChunks, part_of_body, rest_part}
-use Rattle.file_handles.specs.Stands.{HandlesStand, Stands}
-use Rattle.file_handles.specs.declared.object.Object.{Object}
-use Rattle.file_handles.specs.declared.object.Use.{Use}
+use Rattle.handle_table.specs.Standing.{HandlesStand}
+use Rattle.file_handles.specs.Stands.{Stands}
+use Rattle.handle_table.specs.declared.object.Object.{Object}
+use Rattle.handle_table.specs.declared.object.Use.{Use}
 use Rattle.file_handles.specs.declared.read.StoredChunk.{StoredChunk}
 use Rattle.file_handles.proofs.Reading.HeldChunkLaws.{all_on}
 use Rattle.file_handles.proofs.Setting.ElementSlots.{slot_number}

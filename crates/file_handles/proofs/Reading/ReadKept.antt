@@ -7,8 +7,8 @@ use Rattle.cache_theory.specs.Marks.{Marks}
 use Rattle.chunk_cache.specs.Cached.{CachedChunk}
 use Rattle.disk_theory.specs.State.{State, standing}
 use Rattle.file_handles.specs.Cache.{cache_at}
-use Rattle.file_handles.specs.HeldChunks.{ChunksStand}
-use Rattle.file_handles.specs.Kept.{Kept}
+use Rattle.handle_table.specs.HeldChunks.{ChunksStand}
+use Rattle.handle_table.specs.Kept.{Kept}
 use Rattle.file_handles.specs.Reading.{HoldsAsBefore, SameButChunks}
 use Rattle.file_handles.specs.Stands.{IsAt, KeepsWhere, Represents, Stands}
 use Rattle.file_handles.proofs.Reading.ReadChunks.{with_list}

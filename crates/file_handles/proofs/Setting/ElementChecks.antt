@@ -13,14 +13,14 @@ use Rattle.cache_theory.specs.declared.refusal.Refusal.TheVariants.{BadElement, 
 use Rattle.entry_parts.specs.Elements.{Element, elements_bytes}
 use Rattle.entry_parts.specs.Setting.{has_zero, set_fault, with_element}
 use Rattle.entry_parts.specs.declared.fault.PartsFault.TheVariants as bad
-use Rattle.file_handles.specs.Held.{elements_in, is_draft}
-use Rattle.file_handles.specs.Kept.{Kept, object_at, use_at, used}
-use Rattle.file_handles.specs.Refuses.{EndsIn, HasAt, Passes, Refuses}
+use Rattle.handle_table.specs.Held.{elements_in, is_draft}
+use Rattle.handle_table.specs.Kept.{Kept, object_at, use_at, used}
+use Rattle.handle_table.specs.Refuses.{EndsIn, HasAt, Passes, Refuses}
 use Rattle.file_handles.specs.Setting.{are_small}
-use Rattle.file_handles.specs.Stands.{HandlesStand}
-use Rattle.file_handles.specs.declared.object.Entry.{Entry}
-use Rattle.file_handles.specs.declared.object.Object.{Object}
-use Rattle.file_handles.specs.declared.object.Use.{Use}
+use Rattle.handle_table.specs.Standing.{HandlesStand}
+use Rattle.handle_table.specs.declared.object.Entry.{Entry}
+use Rattle.handle_table.specs.declared.object.Object.{Object}
+use Rattle.handle_table.specs.declared.object.Use.{Use}
 use Rattle.file_handles.proofs.Setting.ElementEntries.{finished_is, small_is}
 use Rattle.file_handles.proofs.Setting.ElementSlots.{no_slot, no_use_found, slot_is, slot_number, slot_writes, there_held, there_object}
 

@@ -20,12 +20,12 @@ use Rattle.file_handles.specs.Answers.{OnRefused, done_or, done_or_none, reply_i
 use Rattle.file_handles.specs.Cache.{cache_at}
 use Rattle.file_handles.specs.Carries.{CarriesOut}
 use Rattle.file_handles.specs.Changes.{ChangesThere}
-use Rattle.file_handles.specs.Held.{IsHeldAs, elements_in, is_draft}
-use Rattle.file_handles.specs.Kept.{Kept, object_at}
-use Rattle.file_handles.specs.Refuses.{HasAt, Passes}
-use Rattle.file_handles.specs.Stands.{HandlesStand}
+use Rattle.handle_table.specs.Held.{IsHeldAs, elements_in, is_draft}
+use Rattle.handle_table.specs.Kept.{Kept, object_at}
+use Rattle.handle_table.specs.Refuses.{HasAt, Passes}
+use Rattle.handle_table.specs.Standing.{HandlesStand}
 use Rattle.file_handles.specs.declared.fault.HandleFault.{HandleFault}
-use Rattle.file_handles.specs.declared.object.Object.{Object}
+use Rattle.handle_table.specs.declared.object.Object.{Object}
 use Rattle.file_handles.proofs.Carried.{MakesChange, change_carried}
 use Rattle.file_handles.proofs.Setting.EntryChanged.{with_elements}
 use Rattle.file_handles.proofs.Setting.ElementChecks.{if_object}

@@ -12,11 +12,11 @@ use Rattle.entry_file.proofs.Bodies.{grown}
 use Rattle.entry_metadata.specs.Metadata.{Meta as Said, block_length}
 use Rattle.entry_parts.specs.Elements.{Element, elements_bytes}
 use Rattle.entry_parts.specs.Setting.{with_element, without_element}
-use Rattle.file_handles.specs.Held.{IsEntryOf, body_len_in, elements_in, is_draft, key_in}
+use Rattle.handle_table.specs.Held.{IsEntryOf, body_len_in, elements_in, is_draft, key_in}
 use Rattle.file_handles.specs.Setting.{HasRoom, are_small}
-use Rattle.file_handles.specs.declared.object.Entry.{Entry}
-use Rattle.file_handles.specs.declared.object.Entry.TheVariants.{Draft, Finished}
-use Rattle.file_handles.specs.declared.object.Object.{Object}
+use Rattle.handle_table.specs.declared.object.Entry.{Entry}
+use Rattle.handle_table.specs.declared.object.Entry.TheVariants.{Draft, Finished}
+use Rattle.handle_table.specs.declared.object.Object.{Object}
 
 pub finished_is : (e : Entry) (o : MachineObject) → IsEntryOf e o → o.finished ≡ not (is_draft e)
 finished_is (Draft d) o is = is.0

@@ -15,11 +15,12 @@ use Rattle.entry_parts.specs.Elements.{element}
 use Rattle.entry_parts.specs.Setting.{without_element}
 use Rattle.file_handles.specs.Cache.{cache_at}
 use Rattle.file_handles.specs.Carries.{CarriesOut}
-use Rattle.file_handles.specs.Held.{elements_in}
-use Rattle.file_handles.specs.Kept.{Kept}
-use Rattle.file_handles.specs.Refuses.{HasAt, Passes}
-use Rattle.file_handles.specs.Stands.{HandlesStand, KeepsWhere}
-use Rattle.file_handles.specs.declared.object.Object.{Object}
+use Rattle.handle_table.specs.Held.{elements_in}
+use Rattle.handle_table.specs.Kept.{Kept}
+use Rattle.handle_table.specs.Refuses.{HasAt, Passes}
+use Rattle.handle_table.specs.Standing.{HandlesStand}
+use Rattle.file_handles.specs.Stands.{KeepsWhere}
+use Rattle.handle_table.specs.declared.object.Object.{Object}
 use Rattle.file_handles.proofs.Begun.{begun_in}
 use Rattle.file_handles.proofs.Setting.ElementChecks.{holds}
 use Rattle.file_handles.proofs.Setting.ElementEntries.{elements_are}

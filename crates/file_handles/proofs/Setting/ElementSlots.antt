@@ -6,12 +6,12 @@ use Rattle.cache_theory.specs.Machine.{Machine, is_slot, is_writer, number_of, o
 use Rattle.cache_theory.specs.declared.refusal.Refusal.{Refusal}
 use Rattle.cache_theory.specs.declared.refusal.Refusal.TheVariants.{NoSlot}
 use Rattle.cache_theory.proofs.ObjectLaws.Slots.{is_slot_of, is_writer_of, number_is}
-use Rattle.file_handles.specs.Held.{IsHeldAs}
-use Rattle.file_handles.specs.Kept.{Kept, use_at, used}
-use Rattle.file_handles.specs.Refuses.{HasAt}
-use Rattle.file_handles.specs.Stands.{HandlesStand, slot_of}
-use Rattle.file_handles.specs.declared.object.Object.{Object}
-use Rattle.file_handles.specs.declared.object.Use.{Use}
+use Rattle.handle_table.specs.Held.{IsHeldAs}
+use Rattle.handle_table.specs.Kept.{Kept, use_at, used}
+use Rattle.handle_table.specs.Refuses.{HasAt}
+use Rattle.handle_table.specs.Standing.{HandlesStand, slot_of}
+use Rattle.handle_table.specs.declared.object.Object.{Object}
+use Rattle.handle_table.specs.declared.object.Use.{Use}
 
 -- whether a use was found
 pub no_use_found : (o : Option Use) (r : Refusal) → used o ≡ Err r → (o ≡ None) × (r ≡ NoSlot)

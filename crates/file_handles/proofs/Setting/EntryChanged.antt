@@ -20,11 +20,11 @@ use Rattle.entry_metadata.specs.declared.meta.Meta.{Meta}
 use Rattle.entry_parts.specs.Elements.{Element}
 use Rattle.entry_parts.specs.declared.header.Header.{Header}
 use Rattle.file_handles.specs.Changes.{Becomes, IsFiledAs, IsMomentOf, with_version}
-use Rattle.file_handles.specs.Held.{IsEntryOf, IsHeldAs, object_place, object_with}
-use Rattle.file_handles.specs.declared.object.Draft.{Draft as DraftOf}
-use Rattle.file_handles.specs.declared.object.Entry.{Entry}
-use Rattle.file_handles.specs.declared.object.Entry.TheVariants.{Draft, Finished}
-use Rattle.file_handles.specs.declared.object.Object.{Object}
+use Rattle.handle_table.specs.Held.{IsEntryOf, IsHeldAs, object_place, object_with}
+use Rattle.handle_table.specs.declared.object.Draft.{Draft as DraftOf}
+use Rattle.handle_table.specs.declared.object.Entry.{Entry}
+use Rattle.handle_table.specs.declared.object.Entry.TheVariants.{Draft, Finished}
+use Rattle.handle_table.specs.declared.object.Object.{Object}
 use Rattle.file_handles.proofs.Changed.{writes_weaker}
 
 -- the object with other elements

@@ -15,14 +15,14 @@ use Rattle.cache_theory.proofs.Changes.{object_is}
 use Rattle.cache_theory.proofs.Versions.{object_pinned}
 use Rattle.file_handles.specs.Changes.{with_version}
 use Rattle.file_handles.specs.Effects.{learnt, learnt_at}
-use Rattle.file_handles.specs.Kept.{Kept, object_at, use_at, writing}
-use Rattle.file_handles.specs.Refuses.{Passes, Refuses}
+use Rattle.handle_table.specs.Kept.{Kept, object_at, use_at, writing}
+use Rattle.handle_table.specs.Refuses.{Passes, Refuses}
 use Rattle.file_handles.specs.Setting.{pin_command}
-use Rattle.file_handles.specs.declared.object.Use.{Use}
+use Rattle.handle_table.specs.declared.object.Use.{Use}
 use Rattle.file_handles.proofs.Carried.{MakesChange}
 use Rattle.file_handles.proofs.Setting.ElementCommands.{IsFinished}
 use Rattle.file_handles.proofs.Setting.ElementMarks.{goes_out}
-use Rattle.file_handles.proofs.Closing.Released.{some_object}
+use Rattle.handle_table.proofs.Released.{some_object}
 use Rattle.file_handles.proofs.Finishing.Writers.{is_writing, no_writer}
 
 module _ (k : Kept) (s : ℕ) (small : s < SLOTS) where

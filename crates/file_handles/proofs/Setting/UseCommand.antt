@@ -13,9 +13,9 @@ use Rattle.cache_theory.specs.declared.refusal.Refusal.TheVariants.{NoSlot}
 use Rattle.cache_theory.proofs.Changes.{object_is}
 use Rattle.cache_theory.proofs.Versions.{object_used}
 use Rattle.file_handles.specs.Changes.{with_version}
-use Rattle.file_handles.specs.Kept.{Kept, use_at, used as used_or}
-use Rattle.file_handles.specs.Refuses.{Passes, Refuses}
-use Rattle.file_handles.specs.declared.object.Use.{Use}
+use Rattle.handle_table.specs.Kept.{Kept, use_at, used as used_or}
+use Rattle.handle_table.specs.Refuses.{Passes, Refuses}
+use Rattle.handle_table.specs.declared.object.Use.{Use}
 use Rattle.file_handles.proofs.Carried.{MakesChangeAt}
 use Rattle.file_handles.proofs.Changed.{MayGoOut}
 use Rattle.file_handles.proofs.Setting.ElementChecks.{fails, holds}

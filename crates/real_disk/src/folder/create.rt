@@ -1,21 +1,19 @@
 //! The making of a file at a place.
 
 ghost use Rattle.std.specs.Prelude.{◌≡◌, IfOk, OnOk, OnErr, false};
-ghost use Rattle.real_disk.specs.Areas.{area_in};
-ghost use Rattle.real_disk.specs.Changes.{KeepsMade, StaysOrGoes};
-ghost use Rattle.real_disk.specs.Kept.{ClosesElsewhere, IsSettled};
-ghost use Rattle.real_disk.specs.Files.{IsNoted, KeepsOthers, KeepsAll, Owes};
-ghost use Rattle.real_disk.specs.Folders.{NoneLost, HasNote};
+ghost use Rattle.folder_paths.specs.Areas.{area_in};
+ghost use Rattle.real_disk.specs.Changes.{KeepsMade};
+ghost use Rattle.pending_syncs.specs.Kept.{ClosesElsewhere, IsSettled, StaysOrGoes};
+ghost use Rattle.pending_syncs.specs.Files.{IsNoted, KeepsOthers, KeepsAll, Owes};
+ghost use Rattle.pending_syncs.specs.Folders.{NoneLost, HasNote};
 ghost use Rattle.real_disk.specs.Claims.{IsClaimed};
 ghost use Rattle.real_disk.specs.Earlier.{HasLooked};
 
 use super::Folder;
-use crate::contents::after_change;
-use crate::file_notes::{note_if, take_back};
-use crate::kept::Opened;
-use crate::machine::Machine;
-use crate::paths::{Area, area_of};
 use disk_theory::Place;
+use folder_paths::{Area, area_of};
+use machine_files::{Machine, after_change};
+use pending_syncs::{Opened, note_if, take_back};
 use std::fs::File;
 use std::io::{self, ErrorKind};
 use std::rt::Clock;

@@ -2,16 +2,14 @@
 
 ghost use Rattle.std.specs.Prelude.{◌≡◌, ◌⊎◌, IfOk, IfSome, None, OnErr, length, take, ◌≢◌, ◌≤◌, string_bytes};
 ghost use Rattle.disk_theory.specs.declared.place.Place.TheVariants.{Clear};
-ghost use Rattle.real_disk.specs.Kept.{opened_at, ClosesElsewhere, IsIdle, SameElsewhere};
+ghost use Rattle.pending_syncs.specs.Kept.{opened_at, ClosesElsewhere, IsIdle, SameElsewhere};
 ghost use Rattle.real_disk.specs.Opening.{IsFileOf, IsOpenedAt};
 ghost use Rattle.real_disk.specs.Used.{IsToldOf, KeepsOwn, KeepsRead};
 
 use super::Folder;
-use crate::contents::read_at;
-use crate::kept::Opened;
-use crate::machine::Machine;
-use crate::tree::{Seen, read_only, same_opened, seen_at};
 use disk_theory::Place;
+use machine_files::{Machine, Seen, read_at, read_only, same_opened, seen_at};
+use pending_syncs::Opened;
 use std::fs::File;
 use std::io::{self, ErrorKind};
 use std::rt::Clock;

@@ -1,19 +1,19 @@
 //! The calls that give a file another name, or take its name.
 
 ghost use Rattle.std.specs.Prelude.{◌≡◌, OnOk, OnErr, None, false};
-ghost use Rattle.real_disk.specs.Areas.{area_in};
-ghost use Rattle.real_disk.specs.Changes.{IsMoved, IsRemoved, MovesKept, StaysOrGoes};
-ghost use Rattle.real_disk.specs.Kept.{opened_at, SameElsewhere};
-ghost use Rattle.real_disk.specs.Files.{KeepsOthers, KeepsAllBut, KeepsAll, MovesNote};
-ghost use Rattle.real_disk.specs.Folders.{NoneLost, HasNote};
+ghost use Rattle.folder_paths.specs.Areas.{area_in};
+ghost use Rattle.real_disk.specs.Changes.{IsMoved, IsRemoved};
+ghost use Rattle.pending_syncs.specs.Kept.{opened_at, MovesKept, SameElsewhere, StaysOrGoes};
+ghost use Rattle.pending_syncs.specs.Files.{KeepsOthers, KeepsAllBut, KeepsAll, MovesNote};
+ghost use Rattle.pending_syncs.specs.Folders.{NoneLost, HasNote};
 ghost use Rattle.real_disk.specs.Claims.{IsClaimed};
 ghost use Rattle.real_disk.specs.Earlier.{HasLooked};
 
 use super::Folder;
-use crate::file_notes::{move_note, note_if, take_back};
-use crate::machine::Machine;
-use crate::paths::area_of;
 use disk_theory::Place;
+use folder_paths::area_of;
+use machine_files::Machine;
+use pending_syncs::{move_note, note_if, take_back};
 use std::fs::File;
 use std::io;
 use std::rt::Clock;

@@ -2,26 +2,25 @@
 
 ghost use Rattle.std.specs.Prelude.{◌≡◌, ◌⊎◌, OnOk, OnErr, IsTrue, string_bytes};
 ghost use Rattle.std.specs.BTreeSet.{btree_set_len};
-ghost use Rattle.real_disk.specs.Kept.{SameFiles};
-ghost use Rattle.real_disk.specs.Files.{SyncsFile};
-ghost use Rattle.real_disk.specs.Folders.{NoneLost, NoneLeft, AllNoted};
+ghost use Rattle.pending_syncs.specs.Kept.{SameFiles};
+ghost use Rattle.pending_syncs.specs.Files.{SyncsFile};
+ghost use Rattle.pending_syncs.specs.Folders.{NoneLost, NoneLeft, AllNoted};
 ghost use Rattle.real_disk.specs.Settled.{IsAllSynced};
-ghost use Rattle.real_disk.specs.Taken.{TakesOff};
+ghost use Rattle.machine_files.specs.Taken.{TakesOff};
 ghost use Rattle.std.specs.List.{All};
 ghost use Rattle.real_disk.specs.Claims.{IsAsked};
 ghost use Rattle.real_disk.specs.Earlier.{HasLooked, IsSynced};
-ghost use Rattle.real_disk.specs.OpenFolders.{SyncsNoted};
+ghost use Rattle.pending_syncs.specs.OpenFolders.{SyncsNoted};
 ghost use Rattle.real_disk.specs.declared.earlier.Earlier.TheVariants.{Unsynced};
 
 use super::Folder;
 use crate::earlier::{Covered, Earlier, was_closed};
-use crate::kept::Kept;
-use crate::machine::Machine;
 use crate::standing::sync_at;
 use crate::sync_note;
-use crate::syncing::sync_each;
 use crate::tree::Tree;
 use disk_theory::Place;
+use machine_files::{Machine, sync_each};
+use pending_syncs::Kept;
 use std::alloc::Global;
 use std::collections::BTreeSet;
 use std::fs::File;

@@ -1,19 +1,17 @@
 //! The writing of a file, which is then kept open.
 
 ghost use Rattle.std.specs.Prelude.{◌≡◌, IfOk, OnOk, OnErr, None, Some, false, string_bytes};
-ghost use Rattle.real_disk.specs.Changes.{StaysOrGoes};
-ghost use Rattle.real_disk.specs.Kept.{opened_at, ClosesElsewhere, IsIdle, IsSettled};
+ghost use Rattle.pending_syncs.specs.Kept.{opened_at, ClosesElsewhere, IsIdle, IsSettled, StaysOrGoes};
 ghost use Rattle.real_disk.specs.Opening.{IsFileOf};
 ghost use Rattle.real_disk.specs.Used.{KeepsEnded, KeepsOwn, KeepsWritten};
-ghost use Rattle.real_disk.specs.Files.{IsNoted, KeepsNote, KeepsOthers};
+ghost use Rattle.pending_syncs.specs.Files.{IsNoted, KeepsNote, KeepsOthers};
 ghost use Rattle.real_disk.specs.Claims.{IsClaimed};
 ghost use Rattle.real_disk.specs.Earlier.{HasLooked};
 
 use super::Folder;
-use crate::kept::Opened;
-use crate::machine::Machine;
-use crate::tree::read_and_write;
 use disk_theory::Place;
+use machine_files::{Machine, read_and_write};
+use pending_syncs::Opened;
 use std::fs::File;
 use std::io::{self, ErrorKind};
 use std::rt::Clock;

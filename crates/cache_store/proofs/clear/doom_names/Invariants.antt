@@ -5,7 +5,7 @@ use Rattle.disk_theory.specs.Account.{IsCalm, LooksAtNoEntry, no_sync}
 use Rattle.disk_theory.specs.Told.{Told}
 use Rattle.file_handles.specs.Cache.{cache}
 use Rattle.file_handles.specs.Dooming.{LeavesMark, TakesInOrder}
-use Rattle.file_handles.specs.HeldChunks.{SameChunks}
+use Rattle.handle_table.specs.HeldChunks.{SameChunks}
 use Rattle.file_handles.specs.Kept.{kept}
 use Rattle.index_theory.specs.Leaves.{LeavesBeside}
 use Rattle.cache_store.proofs.clear.doom_names.Given as goal

@@ -2,11 +2,11 @@ use Rattle.std.proofs.Common.{List, ℕ, ◌∙◌, ap, subst}
 use Rattle.disk_theory.specs.State.{standing}
 use Rattle.disk_theory.specs.declared.place.Place.TheVariants.{Entry}
 use Rattle.entry_metadata.specs.Meta.{meta_of}
-use Rattle.cache_store.specs.Said.{saying}
-use Rattle.cache_store.specs.Saying.{SaysMore, StopsIn}
+use Rattle.cache_replies.specs.Said.{saying}
+use Rattle.cache_replies.specs.Saying.{SaysMore, StopsIn}
 use Rattle.cache_store.proofs.Dumping.DumpedItems.{item_text}
-use Rattle.cache_store.proofs.Saying.SaidMore.{of_err, of_ok, when_err}
-use Rattle.cache_store.proofs.Saying.SayingLaws.{cuts_stop, stops_here}
+use Rattle.cache_replies.proofs.SaidMore.{of_err, of_ok, when_err}
+use Rattle.cache_replies.proofs.SayingLaws.{cuts_stop, stops_here}
 use Rattle.cache_store.proofs.dump.say_item.Goals as goal
 
 pub returns-in_err-head-clause-stops : goal.returns-in_err-head-clause-stops

@@ -6,9 +6,9 @@ use Rattle.cache_check.specs.Checks.{AllStand, files_of}
 use Rattle.cache_export.specs.declared.limits.TheConstants.{DUMP_MAX}
 use Rattle.disk_theory.specs.State.{State}
 use Rattle.cache_store.specs.Dumping.{items_from}
-use Rattle.cache_store.specs.Said.{saying}
+use Rattle.cache_replies.specs.Said.{saying}
 use Rattle.cache_store.proofs.Dumping.DumpedItems.{IsLeft, after_turn, cut_turn, stops_on, takes_on, took_turn}
-use Rattle.cache_store.proofs.Saying.SaidMore.{when_err}
+use Rattle.cache_replies.proofs.SaidMore.{when_err}
 use Rattle.cache_store.proofs.dump.say_items.Goals as goal
 
 pub returns-in_err-len-clause-stops : goal.returns-in_err-len-clause-stops

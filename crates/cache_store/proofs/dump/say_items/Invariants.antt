@@ -4,7 +4,7 @@ use Rattle.cache_export.specs.declared.limits.TheConstants.{DUMP_MAX}
 use Rattle.disk_theory.specs.Account.{IsCalm, no_sync}
 use Rattle.file_handles.specs.Kept.{kept}
 use Rattle.cache_store.specs.Dumping.{items_from}
-use Rattle.cache_store.specs.Said.{saying}
+use Rattle.cache_replies.specs.Said.{saying}
 use Rattle.cache_store.proofs.Dumping.DumpedItems.{IsLeft}
 use Rattle.cache_store.proofs.dump.say_items.Given as goal
 

@@ -9,11 +9,11 @@ use Rattle.entry_metadata.specs.Meta.{meta_of}
 use Rattle.file_handles.specs.Found.{IsFoundUnder}
 use Rattle.cache_export.specs.declared.limits.TheConstants.{DUMP_MAX}
 use Rattle.cache_store.specs.Dumping.{adds_nothing, item_length, item_with, turn_at}
-use Rattle.cache_store.specs.Said.{saying}
-use Rattle.cache_store.specs.Saying.{StopsIn}
+use Rattle.cache_replies.specs.Said.{saying}
+use Rattle.cache_replies.specs.Saying.{StopsIn}
 use Rattle.cache_store.proofs.Dumping.DumpedItems.{found_file, item_added, item_short, not_dumped, says_nothing, takes_turn, too_long}
-use Rattle.cache_store.proofs.Saying.SaidMore.{when_err}
-use Rattle.cache_store.proofs.Saying.SayingLaws.{stops_here}
+use Rattle.cache_replies.proofs.SaidMore.{when_err}
+use Rattle.cache_replies.proofs.SayingLaws.{stops_here}
 use Rattle.cache_store.proofs.dump.say_named.Goals as goal
 
 pub returns-in_err-meta-clause-stops : goal.returns-in_err-meta-clause-stops

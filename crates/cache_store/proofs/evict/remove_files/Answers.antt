@@ -5,7 +5,8 @@ use Rattle.cache_store.specs.Evicting.{AreUnused, HoldsFiles}
 use Rattle.cache_store.proofs.Performing.CalmAccounts.{fault_handed_on}
 use Rattle.cache_store.proofs.Clearing.NamesDoomed.{Completes, next_done, next_fails, none_left, rest_holds, rest_unused}
 use Rattle.file_handles.specs.Cache.{cache}
-use Rattle.file_handles.specs.Kept.{Kept, kept}
+use Rattle.handle_table.specs.Kept.{Kept}
+use Rattle.file_handles.specs.Kept.{kept}
 use Rattle.file_handles.proofs.TakingSteps.{one_takes, takes_then}
 use Rattle.file_handles.proofs.UnsyncedLaws.{then_unsynced}
 use Rattle.index_theory.proofs.LeavesLaws.{both_leave_beside}

@@ -1,10 +1,10 @@
 use Rattle.std.proofs.Common.{◌++◌, ◌-◌}
 use Rattle.std.specs.Prelude.{take}
 use Rattle.cache_store.specs.Prefix.{range_of}
-use Rattle.cache_store.specs.Said.{saying}
+use Rattle.cache_replies.specs.Said.{saying}
 use Rattle.cache_store.proofs.Performing.HandedFaults.{front_then, handed_disk, sink_not_disk}
-use Rattle.cache_store.proofs.Saying.SaidMore.{when_err}
-use Rattle.cache_store.proofs.Saying.SayingLaws.{cuts_front, cuts_then, says_then}
+use Rattle.cache_replies.proofs.SaidMore.{when_err}
+use Rattle.cache_replies.proofs.SayingLaws.{cuts_front, cuts_then, says_then}
 use Rattle.file_handles.specs.Reading.{part_of_body}
 use Rattle.cache_store.proofs.found_body.say_framed.Goals as goal
 

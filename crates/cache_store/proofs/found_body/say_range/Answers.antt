@@ -3,12 +3,12 @@ use Rattle.std.specs.Prelude.{drop, take}
 use Rattle.std.proofs.lemmas.List.{length-take}
 use Rattle.disk_theory.specs.State.{State, standing}
 use Rattle.cache_store.specs.Prefix.{HasChunkAt, range_of}
-use Rattle.cache_store.specs.Said.{saying}
-use Rattle.cache_store.specs.Saying.{SaysMore}
+use Rattle.cache_replies.specs.Said.{saying}
+use Rattle.cache_replies.specs.Saying.{SaysMore}
 use Rattle.cache_store.proofs.Reading.BodyRanges.{first_out, next_at, next_before, next_done, next_on, next_turned, part_cut, part_more, part_read, range_stop}
 use Rattle.cache_store.proofs.Performing.HandedFaults.{handed_disk, sink_not_disk}
-use Rattle.cache_store.proofs.Saying.SaidMore.{when_err}
-use Rattle.cache_store.proofs.Saying.SayingLaws.{says_then}
+use Rattle.cache_replies.proofs.SaidMore.{when_err}
+use Rattle.cache_replies.proofs.SayingLaws.{says_then}
 use Rattle.cache_store.proofs.found_body.say_range.Goals as goal
 
 pub returns-in_err-turn_to-clause-cut : goal.returns-in_err-turn_to-clause-cut

@@ -5,8 +5,8 @@ use Rattle.disk_theory.specs.Account.{IsCalm, no_sync}
 use Rattle.disk_theory.specs.State.{standing}
 use Rattle.file_handles.specs.Kept.{kept}
 use Rattle.cache_store.specs.Prefix.{ForPrefix, HasChunkAt, range_of}
-use Rattle.cache_store.specs.Said.{saying}
-use Rattle.cache_store.specs.Saying.{SaysMore}
+use Rattle.cache_replies.specs.Said.{saying}
+use Rattle.cache_replies.specs.Saying.{SaysMore}
 use Rattle.cache_store.proofs.Reading.BodyRanges.{next_at}
 use Rattle.cache_store.proofs.found_body.say_range.Given as goal
 

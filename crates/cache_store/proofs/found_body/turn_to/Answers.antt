@@ -2,7 +2,7 @@ use Rattle.std.proofs.Common.{◌∙◌, ◌++◌, [], append-nil, length, lengt
 use Rattle.std.specs.Io.KnownBytes.{Appends}
 use Rattle.std.proofs.Math.Seq.{take-append_seam}
 use Rattle.cache_store.proofs.Performing.HandedFaults.{sink_not_disk}
-use Rattle.cache_store.proofs.Saying.SaidMore.{cut_more, when_err}
+use Rattle.cache_replies.proofs.SaidMore.{cut_more, when_err}
 use Rattle.cache_store.proofs.found_body.turn_to.Goals as goal
 
 pub returns-in_err-send-clause-cut : goal.returns-in_err-send-clause-cut

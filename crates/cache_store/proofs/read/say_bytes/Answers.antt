@@ -1,13 +1,13 @@
 use Rattle.std.proofs.Common.{[], ◌∷◌, ◌++◌, ◌∙◌, List, ℕ, ap, drop, length, subst, take, arith}
 use Rattle.std.specs.Prelude.{codes}
 use Rattle.cache_theory.specs.Machine.{object_of}
-use Rattle.cache_store.specs.Said.{saying}
-use Rattle.cache_store.specs.Saying.{CutsIn, SaysMore}
+use Rattle.cache_replies.specs.Said.{saying}
+use Rattle.cache_replies.specs.Saying.{CutsIn, SaysMore}
 use Rattle.cache_theory.specs.Text.{with_number}
 use Rattle.cache_store.proofs.Performing.HandedFaults.{front_then, handed_disk, sink_not_disk}
 use Rattle.file_handles.specs.Reading.{part_of_body}
-use Rattle.cache_store.proofs.Saying.SaidMore.{when_err}
-use Rattle.cache_store.proofs.Saying.SayingLaws.{cuts_first, cuts_front, cuts_then, says_then, stops_cut}
+use Rattle.cache_replies.proofs.SaidMore.{when_err}
+use Rattle.cache_replies.proofs.SayingLaws.{cuts_first, cuts_front, cuts_then, says_then, stops_cut}
 use Rattle.cache_store.proofs.read.say_bytes.Goals as goal
 
 pub returns-in_err-head-clause-cut : goal.returns-in_err-head-clause-cut

@@ -1,12 +1,12 @@
 use Rattle.std.proofs.Common.{List, [], ◌++◌, ℕ, append-nil, ap, length, subst, arith}
 use Rattle.cache_theory.specs.Machine.{object_of}
 use Rattle.file_handles.specs.Reading.{part_of_body}
-use Rattle.cache_store.specs.Said.{saying}
-use Rattle.cache_store.specs.Saying.{CutsIn, SaysMore}
+use Rattle.cache_replies.specs.Said.{saying}
+use Rattle.cache_replies.specs.Saying.{CutsIn, SaysMore}
 use Rattle.cache_store.proofs.Performing.CalmAccounts.{sink_fault_looks}
 use Rattle.cache_store.proofs.Reading.PartWhole.{part_short}
-use Rattle.cache_store.proofs.Saying.SaidMore.{when_err}
-use Rattle.cache_store.proofs.Saying.SayingLaws.{cut_part, cuts_stop, says_then, stops_here}
+use Rattle.cache_replies.proofs.SaidMore.{when_err}
+use Rattle.cache_replies.proofs.SayingLaws.{cut_part, cuts_stop, says_then, stops_here}
 use Rattle.cache_store.proofs.read.say_part.Goals as goal
 
 pub returns-in_err-put-in-Ok-clause-stops : goal.returns-in_err-put-in-Ok-clause-stops

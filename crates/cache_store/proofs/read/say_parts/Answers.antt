@@ -2,15 +2,16 @@ use Rattle.std.proofs.Common.{◌≡◌, ◌∙◌, ◌+◌, ◌-◌, ◌<◌, L
 use Rattle.cache_theory.specs.Machine.{object_of}
 use Rattle.disk_theory.specs.Account.{no_sync}
 use Rattle.file_handles.proofs.Accounting.{syncs_same}
-use Rattle.file_handles.specs.Kept.{Kept, kept}
+use Rattle.handle_table.specs.Kept.{Kept}
+use Rattle.file_handles.specs.Kept.{kept}
 use Rattle.file_handles.specs.Reading.{IsPartHeld}
 use Rattle.cache_store.specs.Reads.{LastIsFirst}
-use Rattle.cache_store.specs.Said.{saying}
-use Rattle.cache_store.specs.Saying.{SaysMore}
+use Rattle.cache_replies.specs.Said.{saying}
+use Rattle.cache_replies.specs.Saying.{SaysMore}
 use Rattle.cache_store.proofs.Performing.HandedFaults.{handed_disk}
 use Rattle.cache_store.proofs.Reading.PartWhole.{all_is, front_sent, not_first, part, part_longer, says_with_part, stops_in_part}
 use Rattle.cache_store.proofs.Reading.ReadsHeld.{goes_on, held_on, holds_then, len_of, none_past, part_held, recent_all, recent_more, same_then}
-use Rattle.cache_store.proofs.Saying.SaidMore.{when_err}
+use Rattle.cache_replies.proofs.SaidMore.{when_err}
 use Rattle.cache_store.proofs.read.say_parts.Goals as goal
 
 pub returns-in_err-n-clause-stops : goal.returns-in_err-n-clause-stops

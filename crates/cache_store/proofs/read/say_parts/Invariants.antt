@@ -4,8 +4,8 @@ use Rattle.file_handles.specs.Cache.{cache}
 use Rattle.file_handles.specs.Kept.{kept}
 use Rattle.file_handles.specs.Reading.{ForBody, HoldsAsBefore, LosesNone, SameButChunks, part_of_body}
 use Rattle.cache_store.specs.Reads.{AreHeld, LastIsFirst}
-use Rattle.cache_store.specs.Said.{saying}
-use Rattle.cache_store.specs.Saying.{SaysMore}
+use Rattle.cache_replies.specs.Said.{saying}
+use Rattle.cache_replies.specs.Saying.{SaysMore}
 use Rattle.cache_store.proofs.read.say_parts.Given as goal
 
 -- the bytes so far were said, of them the first part at least, and nothing else was done; before more is said all is

@@ -7,7 +7,7 @@ use Rattle.cache_store.specs.Faulting.{FailsForGood}
 use Rattle.cache_store.specs.Faults.{ending}
 use Rattle.cache_store.specs.IndexCalls.{ReadsEntriesOf}
 use Rattle.cache_store.specs.Open.{Tells}
-use Rattle.cache_store.specs.Saying.{IsPart}
+use Rattle.cache_replies.specs.Saying.{IsPart}
 use Rattle.cache_store.specs.Session.{cache_of, open_of, session}
 use Rattle.cache_store.proofs.Performing.Represented.{represents}
 use Rattle.cache_theory.specs.Faulted.{fault_line}

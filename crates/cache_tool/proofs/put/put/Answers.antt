@@ -1,6 +1,6 @@
 use Rattle.std.proofs.Common.{◌≡◌, ◌∙◌, arith, inl, inr, refl, sym, ap, subst, []}
 use Rattle.std.specs.Io.KnownBytes.{Appends}
-use Rattle.cache_store.specs.Saying.{IsPart}
+use Rattle.cache_replies.specs.Saying.{IsPart}
 use Rattle.cache_store.specs.Session.{session}
 use Rattle.cache_theory.specs.History.{acked, settled_at}
 use Rattle.cache_tool.specs.HeldReply.{said_in}

@@ -2,7 +2,7 @@ use Rattle.std.proofs.Common.{◌≡◌, ◌≤◌, ◌-◌, IsTrue}
 use Rattle.cache_base.specs.declared.limits.TheConstants.{SCRIPT_MAX}
 use Rattle.cache_script.specs.Reader.{given_in}
 use Rattle.cache_store.specs.Open.{IsOpen}
-use Rattle.cache_store.specs.Saying.{TakesMore}
+use Rattle.cache_replies.specs.Saying.{TakesMore}
 use Rattle.cache_store.specs.Session.{session}
 use Rattle.cache_tool.specs.ScriptProgress.{HasPerformed}
 use Rattle.cache_tool.specs.World.{progress}

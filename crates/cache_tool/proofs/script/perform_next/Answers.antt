@@ -3,7 +3,7 @@ use Rattle.cache_script.specs.Command.{command_of}
 use Rattle.cache_store.specs.Outcomes.{verdict_of}
 use Rattle.cache_store.proofs.SyncLaws.{of_most}
 use Rattle.cache_store.specs.Session.{open_of, session}
-use Rattle.cache_store.specs.declared.outcome.Verdict.{Verdict}
+use Rattle.cache_replies.specs.declared.verdict.Verdict.{Verdict}
 use Rattle.cache_tool.specs.Tally.{tally}
 use Rattle.cache_tool.specs.World.{progress, supply}
 use Rattle.cache_tool.proofs.Accounted.{answer_accounted, command_accounted}

@@ -2,7 +2,7 @@ use Rattle.std.proofs.Common.{◌<◌, inl, refl}
 use Rattle.std.proofs.lemmas.Result.{IfOk-weaker}
 use Rattle.cache_base.specs.declared.limits.TheConstants.{SLOTS}
 use Rattle.doom_area.specs.DoomArea.{IsLeastFree}
-use Rattle.file_handles.proofs.Dooming.LowNumbers.{least_low}
+use Rattle.handle_table.proofs.LowNumbers.{least_low}
 use Rattle.file_handles.proofs.TakingSteps.{moved_takes}
 use Rattle.file_handles.proofs.doom.set_aside.Goals as goal
 

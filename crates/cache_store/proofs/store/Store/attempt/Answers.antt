@@ -1,23 +1,23 @@
 use Rattle.std.proofs.Common.{◌≡◌, ◌∙◌, [], Err, IfOk, IsTrue, Ok, Result, ap, rules, subst, sym}
 use Rattle.cache_script.specs.Command.{command_of}
 use Rattle.index_theory.proofs.UncleanLaws.{unclean_leaves_honest}
-use Rattle.cache_store.specs.Answering.{left_to_say}
+use Rattle.cache_replies.specs.Answers.{left_to_say}
 use Rattle.std.proofs.lemmas.Option.{IfSome_then}
 use Rattle.cache_store.specs.Clearing.{LeavesResumed, LeavesUncleared, origin_cleared}
 use Rattle.cache_store.specs.Performing.{HadEffect}
-use Rattle.cache_store.specs.declared.answered.Answered.{Answered}
+use Rattle.cache_replies.specs.declared.answered.Answered.{Answered}
 use Rattle.cache_store.specs.Evicting.{LeavesOthers}
 use Rattle.cache_store.specs.InMemory.{CutsPlainLine}
 use Rattle.cache_store.specs.IndexCalls.{IsFresh}
 use Rattle.file_handles.specs.Kept.{kept}
 use Rattle.cache_store.specs.Reads.{LastIsFirst}
-use Rattle.cache_store.specs.Said.{saying}
+use Rattle.cache_replies.specs.Said.{saying}
 use Rattle.cache_store.specs.Session.{Open, open_of, session}
-use Rattle.cache_store.specs.declared.answered.Answered.TheVariants as answered
+use Rattle.cache_replies.specs.declared.answered.Answered.TheVariants as answered
 use Rattle.cache_store.specs.declared.fault.StoreFault.{StoreFault}
 use Rattle.cache_store.specs.declared.fault.StoreFault.TheVariants as fault
-use Rattle.cache_store.specs.declared.outcome.Verdict.{Verdict}
-use Rattle.cache_store.specs.declared.outcome.Verdict.TheVariants as outcome
+use Rattle.cache_replies.specs.declared.verdict.Verdict.{Verdict}
+use Rattle.cache_replies.specs.declared.verdict.Verdict.TheVariants as outcome
 use Rattle.context_clear.specs.Mark.{mark_of}
 use Rattle.disk_theory.specs.State.{standing}
 use Rattle.disk_theory.specs.declared.place.Place.TheVariants.{Clear}
@@ -30,10 +30,10 @@ use Rattle.cache_store.proofs.Performing.PerformOpen.{performs_open}
 use Rattle.cache_store.proofs.Performing.PerformWhole.{does_performs, fails_performs}
 use Rattle.cache_store.proofs.Saying.PrintedLaws.{prints_found, prints_outcome}
 use Rattle.cache_store.proofs.Performing.RepliedInMemory.{cut_in_memory, cut_of, none_of_line, out_in_memory, part_of_line, plain_unsaid, when_err}
-use Rattle.cache_store.proofs.Saying.SaidMore.{of_ok, when_ok}
+use Rattle.cache_replies.proofs.SaidMore.{of_ok, when_ok}
 use Rattle.cache_store.proofs.Saying.TakenMore.{rest_takes}
 use Rattle.cache_store.proofs.Reading.ReadsHeld.{outcome_ok}
-use Rattle.cache_store.specs.Answering.{outcome_in}
+use Rattle.cache_replies.specs.Answers.{outcome_in}
 use Rattle.cache_store.specs.Reads.{PutsChunks}
 use Rattle.cache_store.specs.Records.{KeepsRecords}
 use Rattle.cache_store.proofs.Performing.PutChunks.{sent_chunks}

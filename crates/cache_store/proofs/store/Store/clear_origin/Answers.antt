@@ -1,6 +1,6 @@
 use Rattle.std.proofs.Common.{◌≡◌, ◌∙◌, List, Err, Ok, ap, refl, subst, length}
 use Rattle.cache_base.specs.declared.name.Name.{Name}
-use Rattle.cache_store.specs.Evicting.{Forgets}
+use Rattle.memory_index.specs.Forgetting.{Forgets}
 use Rattle.cache_store.specs.Faults.{of_disk}
 use Rattle.context_clear.specs.Mark.{mark_bytes}
 use Rattle.file_handles.specs.Kept.{kept}

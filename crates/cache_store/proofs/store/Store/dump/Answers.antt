@@ -9,12 +9,12 @@ use Rattle.file_handles.specs.Cache.{cache_at}
 use Rattle.file_handles.specs.Kept.{kept}
 use Rattle.cache_store.specs.Dumping.{items_from}
 use Rattle.cache_store.specs.Faults.{of_disk}
-use Rattle.cache_store.specs.Said.{saying}
-use Rattle.cache_store.specs.Saying.{SaysMore, StopsIn}
-use Rattle.cache_store.specs.declared.memory_index.MemoryIndex.{MemoryIndex}
+use Rattle.cache_replies.specs.Said.{saying}
+use Rattle.cache_replies.specs.Saying.{SaysMore, StopsIn}
+use Rattle.memory_index.specs.declared.memory_index.MemoryIndex.{MemoryIndex}
 use Rattle.cache_store.proofs.Dumping.DumpDoes.{all_said, cuts_sent, does_keeping, dump_does, dump_fails, dump_stops, end_cut, front_sent, items_cut, sent_says}
 use Rattle.cache_store.proofs.Records.ListDoes.{no_sink}
-use Rattle.cache_store.proofs.Saying.SayingLaws.{cuts_front}
+use Rattle.cache_replies.proofs.SayingLaws.{cuts_front}
 use Rattle.cache_store.proofs.Performing.Stays.{ended_apart, look_stays, noted_disk}
 use Rattle.cache_store.proofs.Saying.TakenMore.{cuts_takes, says_takes}
 use Rattle.cache_store.proofs.store.Store.dump.Goals as goal

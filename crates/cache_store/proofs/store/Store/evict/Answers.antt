@@ -3,9 +3,10 @@ use Rattle.cache_store.specs.Faults.{of_disk}
 use Rattle.cache_base.specs.declared.name.Name.{Name}
 use Rattle.cache_theory.specs.Text.{names_text}
 use Rattle.file_handles.specs.Kept.{kept}
-use Rattle.cache_store.specs.Evicting.{ArePicked, AreUnused, Forgets}
-use Rattle.cache_store.specs.Said.{saying}
-use Rattle.cache_store.specs.Saying.{CutsIn, SaysMore}
+use Rattle.cache_store.specs.Evicting.{ArePicked, AreUnused}
+use Rattle.memory_index.specs.Forgetting.{Forgets}
+use Rattle.cache_replies.specs.Said.{saying}
+use Rattle.cache_replies.specs.Saying.{CutsIn, SaysMore}
 use Rattle.cache_store.proofs.Evicting.EvictDoes.{evict_leaves, evict_does, evict_fails, evict_looks, evict_stops, removes}
 use Rattle.cache_store.proofs.Records.ListDoes.{no_sink}
 use Rattle.cache_store.proofs.Performing.Stays.{ended_apart, look_stays, noted_disk}

@@ -15,7 +15,7 @@ returns-in_err-elements-clause-does g c = λ told.
 pub returns-clause-does : goal.returns-clause-does
 returns-clause-does g c = λ told.
     let before = session g.D.Disk c.args.self.now c.args.disk.now in
-    let after = session g.D.Disk (record c.args.self.now { handles = c.finish_as-answer.new.self; index = c.learn_of.new.self }) c.finish_as-answer.new.disk in
+    let after = session g.D.Disk (record c.args.self.now { handles = c.finish_as-answer.new.self; index = c.learn_of.new.index }) c.finish_as-answer.new.disk in
     subst (λ (elements : List Element). AchievesFor (FinishAs c.args.slot c.args.header elements) c.learn_of.result before after) c.in_ok-elements.ensures
     (finish_as_achieves c.finish_as-answer.result c.learn_of.result before after refl c.learn_of.ensures.learnt (c.finish_as-answer.ensures.finishes.files.index told) c.args.slot c.args.header c.in_ok-elements.elements
     (c.finish_as-answer.ensures.finishes.carried told) c.finish_as-answer.ensures.finishes.effect)

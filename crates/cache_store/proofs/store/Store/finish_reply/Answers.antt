@@ -1,7 +1,7 @@
-use Rattle.cache_store.specs.Answering.{left_to_say}
-use Rattle.cache_store.specs.Said.{saying}
+use Rattle.cache_replies.specs.Answers.{left_to_say}
+use Rattle.cache_replies.specs.Said.{saying}
 use Rattle.cache_store.proofs.Saying.ReplyLaws.{rest_cut, rest_said}
-use Rattle.cache_store.proofs.Saying.SaidMore.{when_err}
+use Rattle.cache_replies.proofs.SaidMore.{when_err}
 use Rattle.cache_store.proofs.store.Store.finish_reply.Goals as goal
 
 pub returns-in_err-outcome-clause-cut : goal.returns-in_err-outcome-clause-cut

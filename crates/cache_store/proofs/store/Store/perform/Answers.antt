@@ -5,7 +5,7 @@ use Rattle.cache_store.proofs.Performing.Stays.{err_failed_look, on_failed_look,
 use Rattle.cache_script.specs.Command.{command_of}
 use Rattle.cache_theory.specs.Command.Command.{At, Append, ClearOrigin, Close, Create, Doom, ElementOf, Evict, Finish, Flush, Get, GetAlt, HasEntry, ListRecords, MainBody, OpenKey, Pin, PutAlt, ReadPart, Rebuild, Resume, SetElement, StepUpdate, Unpin, UnsetElement, UpdateState, UseEntry, Verify, FinishAs, Dump}
 use Rattle.cache_theory.specs.Given.{IsGiven}
-use Rattle.cache_store.specs.Answering.{outcome_in}
+use Rattle.cache_replies.specs.Answers.{outcome_in}
 use Rattle.cache_store.specs.Clearing.{LeavesUncleared, origin_cleared}
 use Rattle.cache_store.specs.Performing.{HadEffect}
 use Rattle.cache_theory.specs.Command.{Command}
@@ -14,10 +14,10 @@ use Rattle.disk_theory.specs.State.{standing}
 use Rattle.disk_theory.specs.declared.place.Place.TheVariants.{Clear}
 use Rattle.cache_store.specs.Evicting.{LeavesOthers}
 use Rattle.cache_store.specs.Reads.{AreHeld, LastIsFirst}
-use Rattle.cache_store.specs.Said.{saying}
+use Rattle.cache_replies.specs.Said.{saying}
 use Rattle.cache_store.specs.StoppedClearing.{ClearsUnderMark}
 use Rattle.cache_store.specs.Session.{open_of, session}
-use Rattle.cache_store.specs.declared.outcome.Verdict.TheVariants as outcome
+use Rattle.cache_replies.specs.declared.verdict.Verdict.TheVariants as outcome
 use Rattle.file_handles.proofs.Reading.ReadKept.{read_keeps}
 use Rattle.file_handles.specs.Kept.{kept}
 use Rattle.cache_store.proofs.Clearing.ClearCommands.{resumed_clears}
@@ -34,7 +34,7 @@ use Rattle.cache_store.specs.Records.{KeepsRecords}
 use Rattle.cache_store.specs.Session.{Open}
 use Rattle.cache_store.proofs.Clearing.ClearPart.{kept_at, same_keeps}
 use Rattle.cache_store.proofs.Performing.PutChunks.{key_doomed, puts_chunks, slot_put}
-use Rattle.cache_store.proofs.Saying.SaidMore.{of_ok, when_ok}
+use Rattle.cache_replies.proofs.SaidMore.{of_ok, when_ok}
 use Rattle.file_handles.specs.Dooming.{IsUnfinishedFor}
 use Rattle.index_theory.specs.Ever.{entries_on}
 use Rattle.cache_store.proofs.store.Store.perform.Goals as goal
@@ -150,7 +150,7 @@ pub returns-in-State-clause-does : goal.returns-in-State-clause-does
 returns-in-State-clause-does g c = λ told.
     let was = saying g.K.Sink c.args.self.now.reply c.args.sink.now in
     as_command _ UpdateState _ _ _ _ _ (ap command_of c.in-State.is) (λ m. refl)
-    (state_does c.state.result (session g.D.Disk c.args.self.now c.args.disk.now) was c.state.ensures.unsaid c.requires.empty c.state.ensures.reply)
+    (state_does c.state_of.result (session g.D.Disk c.args.self.now c.args.disk.now) was c.state_of.ensures.unsaid c.requires.empty c.state_of.ensures.reply)
 
 pub returns-in-List-clause-does : goal.returns-in-List-clause-does
 returns-in-List-clause-does g c = λ told.
@@ -216,7 +216,7 @@ pub returns-in-Create-clause-stays : goal.returns-in-Create-clause-stays
 returns-in-Create-clause-stays g c = λ noted told.
     let failed : has_failed_look c.create-answer.result ≡ true = sym c.has_failed-self.ensures ∙ noted in
     let all = on_failed_look c.create-answer.result _ failed c.create-answer.ensures.looks.read in
-    parts_stay (kept c.args.self.now.handles) (kept c.create-answer.new.self) c.args.self.now.moment (g.D.Disk.state c.args.disk.now) (g.D.Disk.state c.create-answer.new.disk) c.args.self.now.index c.learn_of.new.self
+    parts_stay (kept c.args.self.now.handles) (kept c.create-answer.new.self) c.args.self.now.moment (g.D.Disk.state c.args.disk.now) (g.D.Disk.state c.create-answer.new.disk) c.args.self.now.index c.learn_of.new.index
     all.handles (err_failed_look c.create-answer.result _ failed c.learn_of.ensures.unlearnt) (all.looks.state told)
 
 pub returns-in-OpenKey-clause-stays : goal.returns-in-OpenKey-clause-stays
@@ -230,7 +230,7 @@ pub returns-in-Doom-clause-stays : goal.returns-in-Doom-clause-stays
 returns-in-Doom-clause-stays g c = λ noted told.
     let failed : has_failed_look c.doom-answer.result ≡ true = sym c.has_failed-self-in-Doom.ensures ∙ noted in
     let all = on_failed_look c.doom-answer.result _ failed c.doom-answer.ensures.looks.read in
-    parts_stay (kept c.args.self.now.handles) (kept c.doom-answer.new.self) c.args.self.now.moment (g.D.Disk.state c.args.disk.now) (g.D.Disk.state c.doom-answer.new.disk) c.args.self.now.index c.learn_of-in-Doom.new.self
+    parts_stay (kept c.args.self.now.handles) (kept c.doom-answer.new.self) c.args.self.now.moment (g.D.Disk.state c.args.disk.now) (g.D.Disk.state c.doom-answer.new.disk) c.args.self.now.index c.learn_of-in-Doom.new.index
     all.handles (err_failed_look c.doom-answer.result _ failed c.learn_of-in-Doom.ensures.unlearnt) (all.looks.state told)
 
 pub returns-in-At-clause-in_memory : goal.returns-in-At-clause-in_memory
@@ -239,7 +239,7 @@ returns-in-At-clause-in_memory g c idle =
 
 pub returns-in-State-clause-in_memory : goal.returns-in-State-clause-in_memory
 returns-in-State-clause-in_memory g c idle =
-    state_in_memory (open_of c.args.self.now) _ c.state.result (saying g.K.Sink c.args.self.now.reply c.args.sink.now) (ap command_of c.in-State.is) c.state.ensures.unsaid c.requires.empty c.state.ensures.reply
+    state_in_memory (open_of c.args.self.now) _ c.state_of.result (saying g.K.Sink c.args.self.now.reply c.args.sink.now) (ap command_of c.in-State.is) c.state_of.ensures.unsaid c.requires.empty c.state_of.ensures.reply
 
 pub returns-in-Has-clause-in_memory : goal.returns-in-Has-clause-in_memory
 returns-in-Has-clause-in_memory g c idle =
@@ -313,7 +313,7 @@ pub returns-in-PutAlt-clause-stays : goal.returns-in-PutAlt-clause-stays
 returns-in-PutAlt-clause-stays g c = λ noted told.
     let failed : has_failed_look c.put_alt-answer.result ≡ true = sym c.has_failed-self-in-PutAlt.ensures ∙ noted in
     let all = on_failed_look c.put_alt-answer.result _ failed c.put_alt-answer.ensures.looks.read in
-    parts_stay (kept c.args.self.now.handles) (kept c.put_alt-answer.new.self) c.args.self.now.moment (g.D.Disk.state c.args.disk.now) (g.D.Disk.state c.put_alt-answer.new.disk) c.args.self.now.index c.learn_of-in-PutAlt.new.self
+    parts_stay (kept c.args.self.now.handles) (kept c.put_alt-answer.new.self) c.args.self.now.moment (g.D.Disk.state c.args.disk.now) (g.D.Disk.state c.put_alt-answer.new.disk) c.args.self.now.index c.learn_of-in-PutAlt.new.index
     all.handles (err_failed_look c.put_alt-answer.result _ failed c.learn_of-in-PutAlt.ensures.unlearnt) (all.looks.state told)
 
 pub returns-in-FinishAs-clause-does : goal.returns-in-FinishAs-clause-does

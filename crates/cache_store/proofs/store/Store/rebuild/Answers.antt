@@ -6,7 +6,7 @@ use Rattle.index_record.specs.declared.record.IndexRecord.{IndexRecord}
 use Rattle.startup_read.specs.Writing.{WritesIndex}
 use Rattle.index_theory.specs.Ever.{entries_on}
 use Rattle.file_handles.specs.Kept.{kept}
-use Rattle.cache_store.specs.Records.{TellsOf}
+use Rattle.memory_index.specs.Records.{TellsOf}
 use Rattle.cache_store.specs.Session.{session}
 use Rattle.cache_store.proofs.Records.IndexAchieves.{fails_sparing, spared_in_same, spares_from, spares_same}
 use Rattle.cache_store.proofs.Records.IndexWrites.{rebuild_achieves, rebuild_outcome, rebuilds, synced_unclean, unclean_from, written_records}

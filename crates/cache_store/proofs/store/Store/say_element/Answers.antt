@@ -6,8 +6,8 @@ use Rattle.cache_theory.specs.Step.{element_reply}
 use Rattle.file_handles.specs.Cache.{cache_at}
 use Rattle.file_handles.specs.Carries.{Answers}
 use Rattle.file_handles.specs.Kept.{kept}
-use Rattle.cache_store.specs.Said.{saying}
-use Rattle.cache_store.specs.declared.answered.Answered.TheVariants as answered
+use Rattle.cache_replies.specs.Said.{saying}
+use Rattle.cache_replies.specs.declared.answered.Answered.TheVariants as answered
 use Rattle.cache_store.proofs.Saying.ReplyLaws.{as_carried, value_cut, value_said}
 use Rattle.cache_store.proofs.Saying.Unsaid.{unsaid_answers}
 use Rattle.cache_store.proofs.store.Store.say_element.Goals as goal
@@ -22,7 +22,7 @@ returns-in_err-say_value-in-Ok-Some-clause-answers g c s m is =
     let found : Answers k element (Value v) =
     subst (λ (o : Option (Bor (List ℕ))). Answers k element (element_reply (option_map (λ (x : Bor (List ℕ)). x.now) o))) c.in-Ok-Some.field-0-is c.in-Ok-Some.ensures.found in
     as_carried (cache_at k s) (cache_at k s) element (Value v) (found s) m is _ was.taken now
-    (value_cut was c.requires.empty now v c.from_residual.result c.in_err-say_value-in-Ok-Some.field-0.0 c.from_residual.ensures.1 c.in_err-say_value-in-Ok-Some.ensures.cut)
+    (value_cut was c.requires.empty now v c.from_residual.result _ c.from_residual.ensures.1 c.in_err-say_value-in-Ok-Some.ensures.cut)
 
 pub returns-in_ok-say_value-in-Ok-Some-clause-answers : goal.returns-in_ok-say_value-in-Ok-Some-clause-answers
 returns-in_ok-say_value-in-Ok-Some-clause-answers g c s m is =

@@ -1,4 +1,4 @@
-use Rattle.cache_store.specs.Said.{saying}
+use Rattle.cache_replies.specs.Said.{saying}
 use Rattle.cache_store.proofs.Saying.FaultLine.{fault_cut, fault_cut_all, fault_sent}
 use Rattle.cache_store.proofs.store.Store.say_fault.Goals as goal
 

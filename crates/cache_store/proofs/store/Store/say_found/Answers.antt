@@ -2,10 +2,10 @@ use Rattle.std.proofs.Common.{◌++◌, ◌∷◌, ◌∙◌, ◌/◌, [], lengt
 use Rattle.std.specs.Prelude.{take}
 use Rattle.disk_theory.specs.State.{State, standing}
 use Rattle.cache_store.specs.Prefix.{HasChunkAt, range_of}
-use Rattle.cache_store.specs.Said.{saying}
-use Rattle.cache_store.proofs.Saying.SaidMore.{of_err, of_ok}
+use Rattle.cache_replies.specs.Said.{saying}
+use Rattle.cache_replies.proofs.SaidMore.{of_err, of_ok}
 use Rattle.cache_store.proofs.Performing.Stays.{noted_calm, noted_disk}
-use Rattle.cache_store.proofs.Saying.SayingLaws.{cuts_here}
+use Rattle.cache_replies.proofs.SayingLaws.{cuts_here}
 use Rattle.cache_store.proofs.store.Store.say_found.Goals as goal
 
 pub returns-in-Err-clause-cut : goal.returns-in-Err-clause-cut

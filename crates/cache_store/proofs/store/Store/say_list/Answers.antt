@@ -3,8 +3,8 @@ use Rattle.cache_store.specs.Faults.{of_disk}
 use Rattle.cache_theory.specs.Text.{records_text}
 use Rattle.file_handles.specs.Kept.{kept}
 use Rattle.index_record.specs.declared.record.IndexRecord.{IndexRecord}
-use Rattle.cache_store.specs.Said.{saying}
-use Rattle.cache_store.specs.Saying.{CutsIn, SaysMore}
+use Rattle.cache_replies.specs.Said.{saying}
+use Rattle.cache_replies.specs.Saying.{CutsIn, SaysMore}
 use Rattle.cache_store.proofs.Records.ListDoes.{list_does, list_fails, list_stops, list_unsaid, no_sink}
 use Rattle.cache_store.proofs.Performing.Stays.{ended_apart, look_stays, noted_exactly}
 use Rattle.cache_store.proofs.Saying.TakenMore.{cuts_takes, says_takes}

@@ -9,9 +9,9 @@ use Rattle.cache_theory.specs.Step.{step}
 use Rattle.cache_theory.specs.Text.{with_bytes}
 use Rattle.file_handles.specs.Kept.{kept}
 use Rattle.cache_store.specs.Answering.{AnswersTo}
-use Rattle.cache_store.specs.Said.{saying}
-use Rattle.cache_store.specs.Saying.{CutsIn, SaysMore}
-use Rattle.cache_store.specs.declared.answered.Answered.TheVariants as answered
+use Rattle.cache_replies.specs.Said.{saying}
+use Rattle.cache_replies.specs.Saying.{CutsIn, SaysMore}
+use Rattle.cache_replies.specs.declared.answered.Answered.TheVariants as answered
 use Rattle.cache_store.proofs.Saying.ReplyLaws.{bytes_cut, bytes_said}
 use Rattle.cache_store.proofs.Performing.HandedFaults.{handed_disk}
 use Rattle.cache_store.proofs.Reading.PartRead.{all_of, count_is, read_front, read_reply, refused_reply}

@@ -4,12 +4,12 @@ use Rattle.disk_theory.specs.State.{State, standing}
 use Rattle.disk_theory.specs.declared.place.Place.TheVariants.{Entry}
 use Rattle.entry_file.specs.Held.{IsLastOf}
 use Rattle.cache_store.specs.Answering.{AnswersTo}
-use Rattle.cache_store.specs.Said.{saying}
+use Rattle.cache_replies.specs.Said.{saying}
 use Rattle.cache_store.specs.Prefix.{range_of}
-use Rattle.cache_store.specs.Saying.{CutsIn, SaysMore, SendsFront}
-use Rattle.cache_store.specs.Showing.{part_said, showing}
-use Rattle.cache_store.specs.declared.answered.Answered.{Answered}
-use Rattle.cache_store.specs.declared.answered.Answered.TheVariants as answered
+use Rattle.cache_replies.specs.Saying.{CutsIn, SaysMore, SendsFront}
+use Rattle.cache_replies.specs.Showing.{part_said, showing}
+use Rattle.cache_replies.specs.declared.answered.Answered.{Answered}
+use Rattle.cache_replies.specs.declared.answered.Answered.TheVariants as answered
 use Rattle.cache_store.specs.declared.fault.StoreFault.{StoreFault}
 use Rattle.cache_theory.specs.Step.{step}
 use Rattle.cache_theory.specs.declared.refusal.Refusal.TheVariants.{NoAlt}

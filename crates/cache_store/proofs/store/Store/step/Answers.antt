@@ -9,8 +9,8 @@ use Rattle.cache_store.proofs.store.Store.step.Goals as goal
 
 pub returns-in-Ok-clause-does : goal.returns-in-Ok-clause-does
 returns-in-Ok-clause-does g c = λ told.
-    step_achieves c.args.n c.state.result (kept c.args.self.now.handles) c.args.self.now.moment (g.D.Disk.state c.args.disk.now) (g.D.Disk.state c.step.new.disk) c.args.self.now.index c.step.new.self
-    (c.in-Ok.ensures.looks.state told) c.in-Ok.ensures.base c.in-Ok.ensures.rest (c.in-Ok.ensures.tells told) c.state.ensures.reply
+    step_achieves c.args.n c.state_of.result (kept c.args.self.now.handles) c.args.self.now.moment (g.D.Disk.state c.args.disk.now) (g.D.Disk.state c.step.new.disk) c.args.self.now.index c.step.new.self
+    (c.in-Ok.ensures.looks.state told) c.in-Ok.ensures.base c.in-Ok.ensures.rest (c.in-Ok.ensures.tells told) c.state_of.ensures.reply
 
 pub returns-in-Err-clause-does : goal.returns-in-Err-clause-does
 returns-in-Err-clause-does g c = λ told.

@@ -8,8 +8,8 @@ use Rattle.file_handles.specs.Kept.{kept}
 use Rattle.index_theory.specs.Ever.{entries_on}
 use Rattle.record_list.proofs.NameLaws.{rising_distinct}
 use Rattle.record_list.specs.Lists.{names_of}
-use Rattle.cache_store.specs.declared.memory_index.MemoryIndex.{MemoryIndex}
-use Rattle.cache_store.proofs.Records.RecordsAtEnd.{ended_stays}
+use Rattle.memory_index.specs.declared.memory_index.MemoryIndex.{MemoryIndex}
+use Rattle.memory_index.proofs.RecordsAtEnd.{ended_stays}
 use Rattle.cache_store.proofs.Performing.Stays.{look_stays, noted_exactly}
 use Rattle.cache_store.proofs.Verifying.VerifyDoes.{verify_does, verify_fails, verify_finds}
 use Rattle.cache_store.proofs.store.Store.verify.Goals as goal

@@ -2,9 +2,9 @@ use Rattle.std.proofs.Common.{◌≡◌, ◌+◌, ◌<◌, length, Ok, Some, ari
 use Rattle.cache_base.proofs.ByteLaws.{all_below}
 use Rattle.cache_theory.specs.Command.Command.{Append}
 use Rattle.file_handles.specs.Changes.{appended}
-use Rattle.file_handles.specs.Held.{rest_in}
+use Rattle.handle_table.specs.Held.{rest_in}
 use Rattle.file_handles.specs.Kept.{kept}
-use Rattle.file_handles.specs.declared.object.Object.{Object}
+use Rattle.handle_table.specs.declared.object.Object.{Object}
 use Rattle.file_handles.proofs.Carried.{change_carried}
 use Rattle.file_handles.specs.Answers.{done_or}
 use Rattle.file_handles.proofs.Setting.ElementChecks.{both_right, if_object, the_object}

@@ -1,6 +1,7 @@
 use Rattle.std.proofs.Common.{Ok, Some, refl}
 use Rattle.file_handles.specs.Changes.{appended}
-use Rattle.file_handles.specs.Held.{labelled}
+use Rattle.handle_table.specs.Held.{labelled}
+use Rattle.handle_table.specs.Kept.{kept_in}
 use Rattle.file_handles.specs.Kept.{kept}
 use Rattle.file_handles.proofs.Setting.ElementChecks.{is_there}
 use Rattle.file_handles.proofs.Finishing.Grown.{grown_becomes, grown_writes}
@@ -16,7 +17,7 @@ returns-in_err-append-clause-changes g c tells =
     let b = c.args.b.now in
     let s = g.D.Disk.state c.args.disk.now in
     let t = g.D.Disk.state c.append.new.disk in
-    changes_failed c.args.place (appended b) c.from_residual.result s t (kept c.args.self.now) (kept c.take_apart-entry.new.self) x c.take_apart-entry.ensures.found
+    changes_failed c.args.place (appended b) c.from_residual.result s t (kept c.args.self.now) (kept_in c.take_apart-entry.new.self) x c.take_apart-entry.ensures.found
     (grown_writes x c.in-Draft.draft c.in-Draft.is b s t c.file_place-file.result c.file_place-file.ensures (c.in_err-append.ensures.writes tells))
     c.from_residual.ensures.0
 
@@ -26,8 +27,8 @@ returns-clause-changes g c tells =
     let b = c.args.b.now in
     let s = g.D.Disk.state c.args.disk.now in
     let t = g.D.Disk.state c.append.new.disk in
-    changes_done c.args.place (appended b) (Ok tt) s t (kept c.args.self.now) (kept c.put_entry.new.self) x c.take_apart-entry.ensures.found
+    changes_done c.args.place (appended b) (Ok tt) s t (kept c.args.self.now) (kept_in c.put_entry.new.self) x c.take_apart-entry.ensures.found
     (grown_writes x c.in-Draft.draft c.in-Draft.is b s t c.file_place-file.result c.file_place-file.ensures (c.in_ok-append.ensures.writes tells))
     _
     (grown_becomes x c.in-Draft.draft c.in-Draft.is b s t c.file_place-file.result c.file_place-file.ensures _ refl refl refl c.in_ok-append.ensures.body (c.in_ok-append.ensures.stands tells))
-    (put_back (kept c.args.self.now) (kept c.take_apart-entry.new.self) (kept c.put_entry.new.self) c.args.place (Some _) c.take_apart-entry.ensures.kept c.put_entry.ensures)
+    (put_back (kept c.args.self.now) (kept_in c.take_apart-entry.new.self) (kept_in c.put_entry.new.self) c.args.place (Some _) c.take_apart-entry.ensures.kept c.put_entry.ensures)

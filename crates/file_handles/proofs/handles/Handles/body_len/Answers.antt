@@ -1,8 +1,9 @@
 use Rattle.std.proofs.Common.{◌∙◌, ℕ, sym}
 use Rattle.cache_theory.specs.Command.Command.{ReadPart}
 use Rattle.cache_theory.specs.declared.refusal.Refusal.{Refusal}
-use Rattle.file_handles.specs.Kept.{kept, use_at, used}
-use Rattle.file_handles.specs.Refuses.{HasNoObject, Refuses}
+use Rattle.handle_table.specs.Kept.{use_at, used}
+use Rattle.file_handles.specs.Kept.{kept}
+use Rattle.handle_table.specs.Refuses.{HasNoObject, Refuses}
 use Rattle.file_handles.proofs.Reading.PartsSlots.{part_len, part_no_slot, part_passes, refused_on}
 use Rattle.file_handles.proofs.Setting.ElementSlots.{use_found}
 use Rattle.file_handles.proofs.LiveUses.{live_refuses, none_live, some_live, used_at}

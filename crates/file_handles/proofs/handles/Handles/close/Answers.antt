@@ -1,6 +1,7 @@
 use Rattle.std.proofs.Common.{ap, refl, sym, ◌∙◌, rules}
 use Rattle.file_handles.specs.Answers.{fault_of}
-use Rattle.file_handles.specs.Kept.{kept, used}
+use Rattle.handle_table.specs.Kept.{used}
+use Rattle.file_handles.specs.Kept.{kept}
 use Rattle.file_handles.specs.declared.fault.HandleFault.TheVariants as fault
 use Rattle.file_handles.proofs.Reading.ClosedChunks.{closed, unclosed}
 use Rattle.file_handles.proofs.Reading.PartsSlots.{err_is, on_err}

@@ -12,13 +12,13 @@ use Rattle.file_handles.proofs.handles.Handles.close_all.Goals as goal
 
 pub let_go-requires : goal.let_go-requires
 let_go-requires g c told =
-    let within : c.loop-object.object-index < length c.args.self.table.objects = let lt = c.loop-object-test.true in let l = c.loop-object.invariant.long in omega (arith, lt, l) in
+    let within : c.loop-object.object-index < length c.args.self.table.rows.objects = let lt = c.loop-object-test.true in let l = c.loop-object.invariant.long in omega (arith, lt, l) in
     next_somehow (g.D.Disk.state c.args.disk.now) (g.D.Disk.state c.loop-object.disk) (kept c.args.self) c.loop-object.object-index c.in-Some.object (c.requires.told told)
     (item_at (kept c.args.self) c.loop-object.object-index c.object-item.result _ within c.in-Some.is) (c.loop-object.invariant.to told)
 
 pub returns-in_err-let_go-clause-closes : goal.returns-in_err-let_go-clause-closes
 returns-in_err-let_go-clause-closes g c told =
-    let within : c.loop-object.object-index < length c.args.self.table.objects = let lt = c.loop-object-test.true in let l = c.loop-object.invariant.long in omega (arith, lt, l) in
+    let within : c.loop-object.object-index < length c.args.self.table.rows.objects = let lt = c.loop-object-test.true in let l = c.loop-object.invariant.long in omega (arith, lt, l) in
     record {
       crash = λ h is. all_failed (kept c.args.self) c.loop-object.object-index c.in-Some.object c.let_go.result (g.D.Disk.state c.args.disk.now) (g.D.Disk.state c.loop-object.disk) (g.D.Disk.state c.let_go.new.disk)
           (item_at (kept c.args.self) c.loop-object.object-index c.object-item.result _ within c.in-Some.is) (c.let_go.ensures.state told) (c.loop-object.invariant.to told) h.machine h.marks is;
@@ -32,7 +32,7 @@ loop-object-preserved g c =
     let s = g.D.Disk.state c.args.disk.now in
     let t = g.D.Disk.state c.loop-object.disk in
     let before = c.loop-object.invariant in
-    let within : i < length c.args.self.table.objects = let lt = c.loop-object-test.true in let l = c.loop-object.invariant.long in omega (arith, lt, l) in
+    let within : i < length c.args.self.table.rows.objects = let lt = c.loop-object-test.true in let l = c.loop-object.invariant.long in omega (arith, lt, l) in
     elim c.match-object.branch [
       | in-Some+in_ok-let_go w ↦ record {
         long = before.long;
@@ -57,7 +57,7 @@ loop-object-preserved g c =
 
 pub returns-clause-closes : goal.returns-clause-closes
 returns-clause-closes g c told =
-    let all : length c.args.self.table.objects ≤ c.loop-object.object-index = let l = c.loop-object.invariant.long in let a = c.loop-object-test.false in omega (arith, l, a) in
+    let all : length c.args.self.table.rows.objects ≤ c.loop-object.object-index = let l = c.loop-object.invariant.long in let a = c.loop-object-test.false in omega (arith, l, a) in
     all_closed (g.D.Disk.state c.args.disk.now) (g.D.Disk.state c.loop-object.disk) (kept c.args.self) c.loop-object.object-index all (c.loop-object.invariant.to told)
 
 pub returns-in_err-let_go-clause-index : goal.returns-in_err-let_go-clause-index

@@ -3,8 +3,9 @@ use Rattle.std.specs.Prelude.{slice_get, unwrap_or}
 use Rattle.cache_base.proofs.ByteLaws.{all_below}
 use Rattle.cache_theory.specs.Command.Command.{Create}
 use Rattle.cache_theory.specs.Step.{fresh}
-use Rattle.file_handles.specs.Held.{IsHeldAs}
-use Rattle.file_handles.specs.Kept.{kept, use_at}
+use Rattle.handle_table.specs.Held.{IsHeldAs}
+use Rattle.handle_table.specs.Kept.{use_at}
+use Rattle.file_handles.specs.Kept.{kept}
 use Rattle.file_handles.specs.declared.fault.Effect.TheVariants.{Gone}
 use Rattle.file_handles.proofs.Joining.CreatedCommand.{added_leaves, bad_key_leaves, doom_done, doom_fails, doom_numbered, draft_safe, may_create_by, taken_leaves}
 use Rattle.file_handles.proofs.Dooming.DoomedCommand.{failed_on_leaves}

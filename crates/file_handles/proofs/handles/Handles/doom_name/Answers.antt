@@ -6,7 +6,7 @@ use Rattle.disk_theory.specs.declared.place.Place.TheVariants.{Entry}
 use Rattle.file_handles.specs.Cache.{cache_at}
 use Rattle.file_handles.specs.Kept.{kept}
 use Rattle.file_handles.specs.Stands.{KeepsWhere}
-use Rattle.file_handles.specs.Users.{users_at}
+use Rattle.handle_table.specs.Users.{users_at}
 use Rattle.file_handles.specs.declared.fault.Effect.TheVariants.{Gone}
 use Rattle.file_handles.proofs.Accounting.{change_handed_on}
 use Rattle.file_handles.proofs.Dooming.DoomedCommand.{none_if, some_if}

@@ -2,8 +2,9 @@ use Rattle.std.proofs.Common.{sym, ap, ◌∙◌}
 use Rattle.std.specs.Prelude.{option_map}
 use Rattle.cache_theory.specs.Command.Command.{ElementOf}
 use Rattle.entry_parts.specs.Elements.{element}
-use Rattle.file_handles.specs.Kept.{kept, use_at, used}
-use Rattle.file_handles.specs.declared.object.Use.{Use}
+use Rattle.handle_table.specs.Kept.{use_at, used}
+use Rattle.file_handles.specs.Kept.{kept}
+use Rattle.handle_table.specs.declared.object.Use.{Use}
 use Rattle.file_handles.proofs.Setting.ElementChecks.{element_no_slot, handed_on}
 use Rattle.file_handles.proofs.Setting.ElementReads.{element_leaves}
 use Rattle.file_handles.proofs.Setting.ElementSlots.{use_found}

@@ -1,11 +1,12 @@
 use Rattle.std.proofs.Common.{ℕ, Ok, Option, Some, ap, inl, inr, is_some, refl, sym, subst, ◌∙◌}
 use Rattle.file_handles.specs.Effects.{IsLearntOf}
 use Rattle.file_handles.specs.Finishing.{completed_by}
-use Rattle.file_handles.specs.Held.{labelled, object_with}
-use Rattle.file_handles.specs.Kept.{kept, with_object}
+use Rattle.handle_table.specs.Held.{labelled, object_with}
+use Rattle.handle_table.specs.Kept.{kept_in, with_object}
+use Rattle.file_handles.specs.Kept.{kept}
 use Rattle.file_handles.specs.Publishing.IsAmidPublishing.{Published}
-use Rattle.file_handles.specs.declared.object.Entry.TheVariants.{Finished}
-use Rattle.file_handles.specs.declared.object.Object.{Object}
+use Rattle.handle_table.specs.declared.object.Entry.TheVariants.{Finished}
+use Rattle.handle_table.specs.declared.object.Object.{Object}
 use Rattle.file_handles.proofs.Reading.ClosedChunks.{same_number}
 use Rattle.file_handles.proofs.Finishing.Completed.{completed_becomes, completed_held, completed_stands, completed_writes}
 use Rattle.file_handles.proofs.Finishing.Completions.{completion, version_made}
@@ -40,7 +41,7 @@ returns-in_err-meta-clause-changes g c tells =
     let made = version_made given d parts c.parts_by-parts.ensures.parts in
     let s = g.D.Disk.state c.args.disk.now in
     let t = g.D.Disk.state c.finish.new.disk in
-    completes_failed c.args.place (completed_by given) c.from_residual.result s t t (kept c.args.self.now) (kept c.take_apart-entry.new.self) x c.take_apart-entry.ensures.found
+    completes_failed c.args.place (completed_by given) c.from_residual.result s t t (kept c.args.self.now) (kept_in c.take_apart-entry.new.self) x c.take_apart-entry.ensures.found
     (completed_writes (completed_by given) (completion given) x d c.in-Draft.is parts.header parts.elements made s t c.file_place-file.result c.file_place-file.ensures (c.in_err-meta.ensures.writes tells))
     (g.met.D.Disk.sound c.finish.new.disk tells) (inl refl)
     c.from_residual.ensures.0
@@ -55,7 +56,7 @@ returns-in_err-aside-clause-changes g c tells =
     let s = g.D.Disk.state c.args.disk.now in
     let u = g.D.Disk.state c.finish.new.disk in
     let t = g.D.Disk.state c.publish.new.disk in
-    completes_failed c.args.place (completed_by given) c.from_residual-in_err-aside.result s t u (kept c.args.self.now) (kept c.take_apart-entry.new.self) x c.take_apart-entry.ensures.found
+    completes_failed c.args.place (completed_by given) c.from_residual-in_err-aside.result s t u (kept c.args.self.now) (kept_in c.take_apart-entry.new.self) x c.take_apart-entry.ensures.found
     (completed_writes (completed_by given) (completion given) x d c.in-Draft.is parts.header parts.elements made s u c.file_place-file.result c.file_place-file.ensures (c.in_ok-meta.ensures.writes tells))
     (g.met.D.Disk.sound c.finish.new.disk tells)
     (inr ((c.in_err-aside.ensures.state tells).amid, completed_stands (completed_by given) (completion given) x d c.in-Draft.is parts.header parts.elements made s u c.file_place-file.result c.file_place-file.ensures (c.in_ok-meta.ensures.stands tells)))
@@ -73,14 +74,14 @@ returns-clause-changes g c tells =
     let t = g.D.Disk.state c.publish.new.disk in
     let done = (c.in_ok-aside.ensures.state tells).done in
     let stands = completed_stands (completed_by given) (completion given) x d c.in-Draft.is parts.header parts.elements made s u c.file_place-file.result c.file_place-file.ensures (c.in_ok-meta.ensures.stands tells) in
-    completes_done c.args.place (completed_by given) (Ok c.learnt_of-effect.result) s t u (kept c.args.self.now) (kept c.put_entry.new.self) x c.take_apart-entry.ensures.found
+    completes_done c.args.place (completed_by given) (Ok c.learnt_of-effect.result) s t u (kept c.args.self.now) (kept_in c.put_entry.new.self) x c.take_apart-entry.ensures.found
     (completed_writes (completed_by given) (completion given) x d c.in-Draft.is parts.header parts.elements made s u c.file_place-file.result c.file_place-file.ensures (c.in_ok-meta.ensures.writes tells))
     (g.met.D.Disk.sound c.finish.new.disk tells)
     (inr (Published done.1, stands))
     _
     done.1
     (completed_becomes (completed_by given) (completion given) x d c.in-Draft.is parts.header parts.elements made s u c.file_place-file.result c.file_place-file.ensures c.in_ok-meta.meta c.in_ok-meta.ensures.meta (c.in_ok-meta.ensures.stands tells))
-    (put_back (kept c.args.self.now) (kept c.take_apart-entry.new.self) (kept c.put_entry.new.self) c.args.place (Some _) c.take_apart-entry.ensures.kept c.put_entry.ensures
+    (put_back (kept c.args.self.now) (kept_in c.take_apart-entry.new.self) (kept_in c.put_entry.new.self) c.args.place (Some _) c.take_apart-entry.ensures.kept c.put_entry.ensures
     ∙ ap (λ (a : Option ℕ). with_object (kept c.args.self.now) c.args.place (Some (object_with x.number x.name x.doomed a (Finished c.in_ok-meta.meta)))) done.0)
 
 pub returns-clause-effect : goal.returns-clause-effect
@@ -96,5 +97,5 @@ returns-clause-effect g c =
 
 pub returns-clause-numbered : goal.returns-clause-numbered
 returns-clause-numbered g c =
-    same_number (kept c.args.self.now) (kept c.put_entry.new.self) c.args.place (labelled c.take_apart-entry.result.0 c.take_apart-entry.result.1) _ c.take_apart-entry.ensures.found
-    (put_back (kept c.args.self.now) (kept c.take_apart-entry.new.self) (kept c.put_entry.new.self) c.args.place (Some _) c.take_apart-entry.ensures.kept c.put_entry.ensures) refl
+    same_number (kept c.args.self.now) (kept_in c.put_entry.new.self) c.args.place (labelled c.take_apart-entry.result.0 c.take_apart-entry.result.1) _ c.take_apart-entry.ensures.found
+    (put_back (kept c.args.self.now) (kept_in c.take_apart-entry.new.self) (kept_in c.put_entry.new.self) c.args.place (Some _) c.take_apart-entry.ensures.kept c.put_entry.ensures) refl

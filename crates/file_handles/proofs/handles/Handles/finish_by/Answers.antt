@@ -1,8 +1,9 @@
 use Rattle.std.proofs.lemmas.Result.{IfOk-weaker}
 use Rattle.file_handles.specs.Effects.{HasEffect, IsLearntOf}
 use Rattle.file_handles.specs.Finishing.{completed_by, finish_command, finish_fault}
-use Rattle.file_handles.specs.Kept.{kept, object_at}
-use Rattle.file_handles.specs.Refuses.{HasAt}
+use Rattle.handle_table.specs.Kept.{object_at}
+use Rattle.file_handles.specs.Kept.{kept}
+use Rattle.handle_table.specs.Refuses.{HasAt}
 use Rattle.std.proofs.Common.{◌≡◌, None, rules}
 use Rattle.file_handles.proofs.Finishing.Completions.{completion}
 use Rattle.file_handles.proofs.Finishing.FinishCarried.{finish_carried}

@@ -2,7 +2,8 @@ use Rattle.std.proofs.Common.{sym, ◌∙◌}
 use Rattle.std.proofs.lemmas.Result.{IfOk-weaker}
 use Rattle.cache_theory.specs.Command.Command.{Close}
 use Rattle.file_handles.specs.Effects.{HasEffect, IsLearntOf}
-use Rattle.file_handles.specs.Kept.{kept, object_at}
+use Rattle.handle_table.specs.Kept.{object_at}
+use Rattle.file_handles.specs.Kept.{kept}
 use Rattle.file_handles.proofs.Begun.{begun_in}
 use Rattle.file_handles.proofs.Closing.ClosedSlot.{draft_there, finished_in, finished_may, finished_safe, may_give_up, told_then, unchanged_in}
 use Rattle.file_handles.proofs.EffectLaws.{finished_effect, kept_effect}

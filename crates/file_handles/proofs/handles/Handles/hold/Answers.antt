@@ -4,7 +4,7 @@ use Rattle.std.specs.Prelude.{IsSome}
 use Rattle.std.proofs.lemmas.List.Elements.{All-take}
 use Rattle.chunk_cache.specs.Cached.{bytes_of, with_chunk, with_room}
 use Rattle.chunk_cache.proofs.Properties.{All-looked_at, All-with_chunk}
-use Rattle.file_handles.specs.HeldChunks.{IsChunkInUse}
+use Rattle.handle_table.specs.HeldChunks.{IsChunkInUse}
 use Rattle.file_handles.specs.Kept.{kept}
 use Rattle.file_handles.proofs.Reading.ChunkLists.{kept_put}
 use Rattle.file_handles.proofs.Setting.ElementReads.{mapped_none}
@@ -68,5 +68,5 @@ returns-clause-put g c =
     let n = c.args.chunk.now.number in
     let i = c.args.chunk.now.index in
     let bytes = c.read_over.new.bytes in
-    kept_put n i c.args.self.now.chunks c.keep.new.self bytes (mapped_none _ c.look.result _ c.look.ensures.bytes (sym c.if-is_some.ensures))
+    kept_put n i c.args.self.now.table.chunks c.keep.new.self bytes (mapped_none _ c.look.result _ c.look.ensures.bytes (sym c.if-is_some.ensures))
     (c.in_ok-keep.ensures.ok ∙ ap (with_chunk n i bytes) (c.evict.ensures.chunks ∙ ap with_room c.look.follows.holds-at-none))

@@ -1,6 +1,7 @@
 use Rattle.std.proofs.Common.{sym, ap, ◌∙◌}
 use Rattle.cache_theory.specs.Command.Command.{Append}
-use Rattle.file_handles.specs.Kept.{kept, writing}
+use Rattle.handle_table.specs.Kept.{writing}
+use Rattle.file_handles.specs.Kept.{kept}
 use Rattle.file_handles.proofs.Setting.ElementChecks.{handed_on}
 use Rattle.file_handles.proofs.LiveUses.{live_refuses, writes_at}
 use Rattle.file_handles.proofs.Finishing.Writers.{append_ends, append_no_writer, ending}

@@ -2,8 +2,9 @@ use Rattle.std.proofs.Common.{sym, ◌∙◌, ap, refl, false, true, not}
 use Rattle.std.specs.Prelude.{◌||◌}
 use Rattle.std.proofs.lemmas.Bool.{not-false, not-true, or_right}
 use Rattle.cache_theory.specs.Command.Command.{SetElement, UnsetElement}
-use Rattle.file_handles.specs.Held.{is_draft}
-use Rattle.file_handles.specs.Kept.{kept, use_at, used}
+use Rattle.handle_table.specs.Held.{is_draft}
+use Rattle.handle_table.specs.Kept.{use_at, used}
+use Rattle.file_handles.specs.Kept.{kept}
 use Rattle.file_handles.proofs.Setting.ElementChecks.{handed_on, set_ends, set_no_slot, unset_ends, unset_no_slot}
 use Rattle.file_handles.proofs.Setting.ElementSlots.{use_found}
 use Rattle.file_handles.proofs.LiveUses.{live_refuses, used_at}

@@ -2,7 +2,7 @@ use Rattle.std.proofs.Common.{rules, ◌≡◌, ◌∙◌, sym, ap, true, false,
 use Rattle.cache_theory.specs.declared.refusal.Refusal.TheVariants as refused
 use Rattle.entry_key.specs.Writing.{may_write}
 use Rattle.file_handles.specs.Kept.{kept}
-use Rattle.file_handles.specs.Loading.{used_place}
+use Rattle.handle_table.specs.Finding.{used_place}
 use Rattle.file_handles.proofs.Dooming.DoomedChecks.{doom_absent, doom_bad_key, doom_read, doom_used, refused_on}
 use Rattle.file_handles.proofs.Dooming.Unmoved.{is_used}
 use Rattle.file_handles.proofs.handles.Handles.may_doom.Goals as goal

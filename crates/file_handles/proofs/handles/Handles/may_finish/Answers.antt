@@ -1,6 +1,7 @@
 use Rattle.std.proofs.Common.{sym, ◌∙◌}
 use Rattle.file_handles.specs.Finishing.{finish_command}
-use Rattle.file_handles.specs.Kept.{kept, writing}
+use Rattle.handle_table.specs.Kept.{writing}
+use Rattle.file_handles.specs.Kept.{kept}
 use Rattle.file_handles.proofs.Setting.ElementChecks.{handed_on}
 use Rattle.file_handles.proofs.LiveUses.{live_refuses, writes_at}
 use Rattle.file_handles.proofs.Finishing.Writers.{finish_ends, finish_no_writer}

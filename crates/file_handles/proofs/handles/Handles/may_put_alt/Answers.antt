@@ -1,7 +1,8 @@
 use Rattle.std.proofs.Common.{◌≡◌, length, sym, ◌∙◌}
 use Rattle.cache_theory.specs.declared.refusal.Refusal.TheVariants.{NoSlot}
 use Rattle.cache_theory.specs.Command.Command.{PutAlt}
-use Rattle.file_handles.specs.Kept.{kept, writing}
+use Rattle.handle_table.specs.Kept.{writing}
+use Rattle.file_handles.specs.Kept.{kept}
 use Rattle.file_handles.proofs.PuttingAlt.AltChecks.{put_ends, put_no_writer}
 use Rattle.file_handles.proofs.Setting.ElementChecks.{handed_on}
 use Rattle.file_handles.proofs.LiveUses.{live_refuses, writes_at}

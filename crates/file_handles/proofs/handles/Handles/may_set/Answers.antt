@@ -1,11 +1,11 @@
 use Rattle.std.proofs.Common.{◌≡◌, sym, ◌∙◌, ap, false, subst, true, None, IfSome}
 use Rattle.entry_parts.specs.Setting.{set_fault, with_element}
 use Rattle.cache_theory.specs.Checks.{good_element}
-use Rattle.file_handles.specs.Held.{elements_in}
+use Rattle.handle_table.specs.Held.{elements_in}
 use Rattle.file_handles.specs.Kept.{kept}
-use Rattle.file_handles.specs.Refuses.{HasAt}
+use Rattle.handle_table.specs.Refuses.{HasAt}
 use Rattle.file_handles.specs.Setting.{are_small}
-use Rattle.file_handles.specs.declared.object.Object.{Object}
+use Rattle.handle_table.specs.declared.object.Object.{Object}
 use Rattle.file_handles.proofs.Setting.ElementChecks.{at_object, bad_name, bad_value, empty_name, set_bad, set_ends_by, settable, some_object}
 use Rattle.file_handles.proofs.Setting.ElementEntries.{small_has_room}
 use Rattle.file_handles.proofs.Reading.PartsSlots.{refused_on}

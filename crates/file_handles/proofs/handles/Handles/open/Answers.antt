@@ -7,7 +7,8 @@ use Rattle.entry_metadata.specs.declared.meta.Meta.{Meta}
 use Rattle.file_handles.specs.Answers.{done_or}
 use Rattle.file_handles.specs.Cache.{cache_at}
 use Rattle.file_handles.specs.Carries.{CarriesOut}
-use Rattle.file_handles.specs.Kept.{kept, use_at}
+use Rattle.handle_table.specs.Kept.{kept_in, use_at}
+use Rattle.file_handles.specs.Kept.{kept}
 use Rattle.file_handles.specs.Loading.{LoadsAs}
 use Rattle.file_handles.specs.declared.fault.HandleFault.{HandleFault}
 use Rattle.file_handles.proofs.Finding.FoundUser.{unused_same}
@@ -28,7 +29,7 @@ pub returns-in-Some-clause-carried : goal.returns-in-Some-clause-carried
 returns-in-Some-clause-carried g c = λ told.
     let k = kept c.args.self.now in
     joins_leaves (g.D.Disk.state c.args.disk.now) k c.args.slot c.args.key.now c.requires.slot (used_none (use_at k c.args.slot) c.use_of.result c.use_of.ensures (sym c.is_ok.ensures.value ∙ c.if-is_ok.false))
-    (sym c.may_write.ensures ∙ c.if-not-may_write.false) c.name_of-name.result c.name_of-name.ensures (omega arith) (kept c.join.new.self) c.in-Some.place (sym c.used_by.ensures.found ∙ c.in-Some.is) c.join.ensures.joins
+    (sym c.may_write.ensures ∙ c.if-not-may_write.false) c.name_of-name.result c.name_of-name.ensures (omega arith) (kept_in c.join.new.self) c.in-Some.place (sym c.used_by.ensures.found ∙ c.in-Some.is) c.join.ensures.joins
 
 pub returns-in_err-meta-clause-carried : goal.returns-in_err-meta-clause-carried
 returns-in_err-meta-clause-carried g c = λ told.

@@ -1,6 +1,7 @@
 use Rattle.std.proofs.Common.{sym, ◌∙◌}
 use Rattle.cache_theory.specs.Command.Command.{UseEntry}
-use Rattle.file_handles.specs.Kept.{kept, use_at, used}
+use Rattle.handle_table.specs.Kept.{use_at, used}
+use Rattle.file_handles.specs.Kept.{kept}
 use Rattle.file_handles.proofs.Setting.ElementChecks.{handed_on}
 use Rattle.file_handles.proofs.Setting.ElementSlots.{use_found}
 use Rattle.file_handles.proofs.LiveUses.{live_refuses, used_at}

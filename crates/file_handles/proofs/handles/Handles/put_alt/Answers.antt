@@ -8,10 +8,11 @@ use Rattle.disk_theory.specs.State.{State}
 use Rattle.file_handles.specs.Cache.{cache_at}
 use Rattle.file_handles.specs.Changes.{IsFiledAt}
 use Rattle.file_handles.specs.Effects.{HasEffect, IsLearntOf}
-use Rattle.file_handles.specs.Held.{body_len_in, object_place}
-use Rattle.file_handles.specs.Kept.{kept, object_at}
+use Rattle.handle_table.specs.Held.{body_len_in, object_place}
+use Rattle.handle_table.specs.Kept.{object_at}
+use Rattle.file_handles.specs.Kept.{kept}
 use Rattle.file_handles.specs.PuttingAlt.{MayPut, PutsThere}
-use Rattle.file_handles.specs.Refuses.{HasAt}
+use Rattle.handle_table.specs.Refuses.{HasAt}
 use Rattle.file_handles.proofs.PuttingAlt.AltCommand.{told_if, faulted_answer, kept_main, put_effect, put_leaves, put_left, put_main, put_told, put_unsynced}
 use Rattle.file_handles.proofs.Setting.ElementChecks.{if_object, the_object}
 use Rattle.file_handles.proofs.PuttingAlt.LongerEntry.{behind}

@@ -1,4 +1,4 @@
-use Rattle.std.proofs.Common.{◌≡◌, Option, None, Some, Ok, sym, ap, subst, ◌∙◌, IfSome, rules}
+use Rattle.std.proofs.Common.{◌≡◌, Option, None, Some, Ok, sym, ap, subst, ◌∙◌, IfSome}
 use Rattle.cache_theory.specs.Checks.{with_alt_data}
 use Rattle.chunk_cache.specs.Cached.{without_entry}
 use Rattle.chunk_cache.proofs.Properties.{others_left}
@@ -7,11 +7,12 @@ use Rattle.entry_file.proofs.Writing.{not_written}
 use Rattle.file_handles.specs.Cache.{cache_at}
 use Rattle.file_handles.specs.Changes.{ChangesAt, with_version}
 use Rattle.file_handles.specs.Effects.{IsLearntOf}
-use Rattle.file_handles.specs.Held.{body_len_in, labelled, object_place}
-use Rattle.file_handles.specs.Kept.{Kept, kept, object_at, with_object, without_chunks}
+use Rattle.handle_table.specs.Held.{body_len_in, labelled, object_place}
+use Rattle.handle_table.specs.Kept.{Kept, kept_in, object_at, with_object, without_chunks}
+use Rattle.file_handles.specs.Kept.{kept}
 use Rattle.file_handles.specs.PuttingAlt.{AreHashesWith}
-use Rattle.file_handles.specs.declared.object.Entry.TheVariants.{Finished}
-use Rattle.file_handles.specs.declared.object.Object.{Object}
+use Rattle.handle_table.specs.declared.object.Entry.TheVariants.{Finished}
+use Rattle.handle_table.specs.declared.object.Object.{Object}
 use Rattle.file_handles.proofs.Accounting.{changes_handed_on}
 use Rattle.file_handles.proofs.Setting.ElementChecks.{if_object}
 use Rattle.file_handles.proofs.PuttingAlt.LongerEntry.{IsMetaBehind, behind, behind_becomes, behind_learnt, behind_writes, prefix_kept, prefix_same, stores_shorter}
@@ -22,7 +23,7 @@ pub returns-in_err-meta-clause-changes : goal.returns-in_err-meta-clause-changes
 returns-in_err-meta-clause-changes g c told =
     let s = g.D.Disk.state c.args.disk.now in
     let k = kept c.args.self.now in
-    let after = kept c.take_apart-entry.new.self in
+    let after = kept_in c.take_apart-entry.new.self in
     let x = labelled c.take_apart-entry.result.0 c.take_apart-entry.result.1 in
     let change = with_version (with_alt_data c.args.kind.now c.args.alt.now) in
     subst (λ (o : Option Object). IfSome o (λ x. ChangesAt c.args.place change c.from_residual.result (cache_at (without_chunks k x.number) s) (cache_at after s) x)) (sym c.take_apart-entry.ensures.found)
@@ -55,7 +56,7 @@ returns-in_err-grow_body-clause-changes g c told =
     let s = g.D.Disk.state c.args.disk.now in
     let t = g.D.Disk.state c.grow_body.new.disk in
     let k = kept c.args.self.now in
-    let mid : Kept = record (kept c.take_apart-entry.new.self) { chunks = c.forget.new.self } in
+    let mid : Kept = record (kept_in c.take_apart-entry.new.self) { chunks = c.forget.new.self } in
     let x = labelled c.take_apart-entry.result.0 c.take_apart-entry.result.1 in
     let alt = c.args.alt.now in
     let change = with_version (with_alt_data c.args.kind.now alt) in
@@ -85,7 +86,7 @@ returns-clause-changes g c told =
     let s = g.D.Disk.state c.args.disk.now in
     let t = g.D.Disk.state c.grow_body.new.disk in
     let k = kept c.args.self.now in
-    let after = kept c.put_entry.new.self in
+    let after = kept_in c.put_entry.new.self in
     let x = labelled c.take_apart-entry.result.0 c.take_apart-entry.result.1 in
     let alt = c.args.alt.now in
     let change = with_version (with_alt_data c.args.kind.now alt) in
@@ -94,7 +95,7 @@ returns-clause-changes g c told =
     record { header = new.header; key = new.key; elements = new.elements; hashes_are = new.hashes; offset = new.offset } in
     let has = if_object (object_at k c.args.place) x (AreHashesWith s alt c.args.hashes) c.take_apart-entry.ensures.found (c.requires.hashes told) in
     let y : Object = record { number = x.number; name = x.name; doomed = x.doomed; aside = x.aside; entry = Finished c.in_ok-meta.meta } in
-    let mid : Kept = record (kept c.take_apart-entry.new.self) { chunks = c.forget.new.self } in
+    let mid : Kept = record (kept_in c.take_apart-entry.new.self) { chunks = c.forget.new.self } in
     let taken : mid ≡ with_object (without_chunks k x.number) c.args.place None =
     (λ i. record (c.take_apart-entry.ensures.kept i) { chunks = c.forget.ensures.chunks i })
     ∙ ap (λ (j : Kept). record (with_object k c.args.place None) { chunks = without_entry x.number j.chunks }) c.take_apart-entry.ensures.kept in

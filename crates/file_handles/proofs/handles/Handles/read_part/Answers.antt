@@ -8,10 +8,11 @@ use Rattle.chunk_cache.proofs.Properties.{look_puts_first}
 use Rattle.disk_theory.specs.Account.{Ending, Looks}
 use Rattle.file_handles.specs.Answers.{ending}
 use Rattle.file_handles.specs.Cache.{cache_at}
-use Rattle.file_handles.specs.HeldChunks.{MayLoseLast, PutsFirst}
-use Rattle.file_handles.specs.Kept.{Kept, kept, object_at, use_at, used}
+use Rattle.handle_table.specs.HeldChunks.{MayLoseLast, PutsFirst}
+use Rattle.handle_table.specs.Kept.{Kept, object_at, use_at, used}
+use Rattle.file_handles.specs.Kept.{kept}
 use Rattle.file_handles.specs.Reading.{ForBody, HasChunkOf, part_of_body, rest_part}
-use Rattle.file_handles.specs.Refuses.{HasNoObject, Refuses}
+use Rattle.handle_table.specs.Refuses.{HasNoObject, Refuses}
 use Rattle.file_handles.specs.declared.fault.HandleFault.{HandleFault}
 use Rattle.file_handles.specs.declared.fault.HandleFault.TheVariants as fault
 use Rattle.file_handles.specs.declared.read.StoredChunk.{StoredChunk}

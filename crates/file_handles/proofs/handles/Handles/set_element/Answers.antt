@@ -4,11 +4,12 @@ use Rattle.cache_theory.specs.Command.Command.{SetElement}
 use Rattle.cache_base.specs.Bytes.{AreBytes}
 use Rattle.cache_base.proofs.ByteLaws.{all_below}
 use Rattle.cache_theory.specs.Command.Command.{SetElement}
-use Rattle.file_handles.specs.Kept.{kept, object_at}
+use Rattle.handle_table.specs.Kept.{object_at}
+use Rattle.file_handles.specs.Kept.{kept}
 use Rattle.entry_parts.specs.Setting.{with_element}
 use Rattle.file_handles.specs.Effects.{HasEffect, IsLearntOf}
-use Rattle.file_handles.specs.Held.{elements_in}
-use Rattle.file_handles.specs.Refuses.{HasAt}
+use Rattle.handle_table.specs.Held.{elements_in}
+use Rattle.handle_table.specs.Refuses.{HasAt}
 use Rattle.file_handles.specs.Setting.{HasRoom}
 use Rattle.file_handles.proofs.EffectLaws.{change_effect}
 use Rattle.file_handles.proofs.Setting.EntryChanged.{with_elements}

@@ -3,9 +3,10 @@ use Rattle.std.proofs.lemmas.Result.{IfOk-weaker}
 use Rattle.cache_theory.specs.Step.{with_pin}
 use Rattle.file_handles.specs.Changes.{with_version}
 use Rattle.file_handles.specs.Effects.{HasEffect, IsLearntOf}
-use Rattle.file_handles.specs.Held.{is_draft}
-use Rattle.file_handles.specs.Kept.{kept, object_at}
-use Rattle.file_handles.specs.Refuses.{HasAt}
+use Rattle.handle_table.specs.Held.{is_draft}
+use Rattle.handle_table.specs.Kept.{object_at}
+use Rattle.file_handles.specs.Kept.{kept}
+use Rattle.handle_table.specs.Refuses.{HasAt}
 use Rattle.file_handles.specs.Setting.{pin_command}
 use Rattle.file_handles.proofs.Carried.{change_carried}
 use Rattle.file_handles.proofs.EffectLaws.{change_effect}

@@ -5,8 +5,9 @@ use Rattle.entry_parts.specs.Setting.{without_element}
 use Rattle.file_handles.specs.Answers.{done_or}
 use Rattle.file_handles.specs.Cache.{cache_at}
 use Rattle.file_handles.specs.Carries.{CarriesOut}
-use Rattle.file_handles.specs.Kept.{kept, object_at}
-use Rattle.file_handles.specs.Refuses.{HasAt}
+use Rattle.handle_table.specs.Kept.{object_at}
+use Rattle.file_handles.specs.Kept.{kept}
+use Rattle.handle_table.specs.Refuses.{HasAt}
 use Rattle.file_handles.proofs.EffectLaws.{change_effect, unsets_rewrite}
 use Rattle.file_handles.proofs.Setting.EntryChanged.{with_elements}
 use Rattle.file_handles.proofs.Setting.ElementChecks.{at_object, if_object, of_any, some_object}

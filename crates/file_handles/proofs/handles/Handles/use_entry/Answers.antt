@@ -4,9 +4,10 @@ use Rattle.cache_theory.specs.Command.Command.{UseEntry}
 use Rattle.cache_theory.specs.Step.{used}
 use Rattle.file_handles.specs.Changes.{with_version}
 use Rattle.file_handles.specs.Effects.{HasEffectAt, IsLearntOf}
-use Rattle.file_handles.specs.Held.{is_draft}
-use Rattle.file_handles.specs.Kept.{kept, object_at}
-use Rattle.file_handles.specs.Refuses.{HasAt}
+use Rattle.handle_table.specs.Held.{is_draft}
+use Rattle.handle_table.specs.Kept.{object_at}
+use Rattle.file_handles.specs.Kept.{kept}
+use Rattle.handle_table.specs.Refuses.{HasAt}
 use Rattle.file_handles.proofs.Carried.{change_carried_at}
 use Rattle.file_handles.proofs.EffectLaws.{change_effect_at}
 use Rattle.file_handles.proofs.Setting.ElementChecks.{if_object, of_any, the_object}

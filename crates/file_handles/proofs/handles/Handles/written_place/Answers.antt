@@ -1,5 +1,6 @@
 use Rattle.std.proofs.Common.{sym, ◌∙◌}
-use Rattle.file_handles.specs.Kept.{kept, writing}
+use Rattle.handle_table.specs.Kept.{writing}
+use Rattle.file_handles.specs.Kept.{kept}
 use Rattle.file_handles.specs.Setting.{pin_command}
 use Rattle.file_handles.proofs.Setting.ElementChecks.{handed_on}
 use Rattle.file_handles.proofs.LiveUses.{live_refuses, writes_at}

@@ -1,7 +1,7 @@
 use Rattle.std.proofs.Common.{subst, sym}
 use Rattle.real_disk.proofs.AnswerLaws.{on_answer}
 use Rattle.real_disk.specs.Changes.{KeepsMade}
-use Rattle.real_disk.specs.Kept.{ClosesElsewhere, IsSettled}
+use Rattle.pending_syncs.specs.Kept.{ClosesElsewhere, IsSettled}
 use Rattle.real_disk.proofs.real_disk.RealDiskDisk.create.Goals as goal
 
 pub returns-clause-made : goal.returns-clause-made

@@ -1,4 +1,4 @@
-use Rattle.real_disk.specs.Folders.{NoneLost}
+use Rattle.pending_syncs.specs.Folders.{NoneLost}
 use Rattle.real_disk.specs.Roots.{HasSameRoot}
 use Rattle.real_disk.proofs.tree.Tree.make_with_those_above.Given as goal
 

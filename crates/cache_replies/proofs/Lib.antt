@@ -1,0 +1,3 @@
+pub mod SaidFront
+pub mod SaidMore
+pub mod SayingLaws

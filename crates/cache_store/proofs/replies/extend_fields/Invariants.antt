@@ -1,7 +1,0 @@
-use Rattle.std.proofs.Common.{◌≡◌, ◌++◌, drop}
-use Rattle.cache_store.specs.Texts.{fields}
-use Rattle.cache_store.proofs.replies.extend_fields.Given as goal
-
--- what is left of the numbers completes them
-abbrev pub invariant-loop-n : goal.invariant-loop-n
-invariant-loop-n l = l.to ++ fields (drop l.n-index l.numbers) ≡ l.fn.to ++ fields l.numbers

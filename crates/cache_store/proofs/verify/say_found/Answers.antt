@@ -1,5 +1,0 @@
-use Rattle.cache_store.proofs.Saying.SaidMore.{when_err}
-use Rattle.cache_store.proofs.verify.say_found.Goals as goal
-
-pub returns-in_err-say_listing-clause-cut : goal.returns-in_err-say_listing-clause-cut
-returns-in_err-say_listing-clause-cut g c = when_err c.from_residual.result _ c.in_err-say_listing.ensures.cut

@@ -1,0 +1,12 @@
+pub mod AsideNumbers
+pub mod AskedNames
+pub mod Joined
+pub mod KeptLaws
+pub mod LowNumbers
+pub mod OpenNames
+pub mod PassingNames
+pub mod Released
+pub mod SeatLaws
+pub mod SlotUsers
+pub mod Unused
+pub mod User

@@ -1,0 +1,12 @@
+pub mod Held
+pub mod Seats
+pub mod Aside
+pub mod Kept
+pub mod HeldChunks
+pub mod Standing
+pub mod Finding
+pub mod Joining
+pub mod Leaving
+pub mod Refuses
+pub mod Resting
+pub mod Users

@@ -1,0 +1,5 @@
+pub mod Forgotten
+pub mod OneSet
+pub mod RecordsAtEnd
+pub mod ScanBegins
+pub mod TellsAlike

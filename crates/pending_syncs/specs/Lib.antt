@@ -1,0 +1,4 @@
+pub mod Kept
+pub mod Folders
+pub mod OpenFolders
+pub mod Files

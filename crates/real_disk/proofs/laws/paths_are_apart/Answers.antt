@@ -1,5 +1,0 @@
-use Rattle.real_disk.proofs.PathLaws.{paths_apart}
-use Rattle.real_disk.proofs.laws.paths_are_apart.Goals as goal
-
-pub returns : goal.returns
-returns c = λ dir numbers path one other. paths_apart dir numbers c.args._one.now c.args._other.now path one other

@@ -1,9 +1,0 @@
-use Rattle.std.proofs.Common.{Ok}
-use Rattle.std.specs.Fn.{FnReturnsAt}
-use Rattle.real_disk.proofs.TakenLaws.{takes_all}
-use Rattle.real_disk.proofs.syncing.sync_listed.Goals as goal
-
-pub returns : goal.returns
-returns g c =
-    let s = c.in_ok-sync_each.ensures in
-    record { each = takes_all (λ key. FnReturnsAt g.S.Fn c.args.sync key (Ok tt)) c.args.listed c.sync_each.new.pending s.synced s.all }
