@@ -7,7 +7,7 @@ pub mod IndexWrites
 pub mod LearntAchieves
 pub mod ListDoes
 pub mod OneLearnt
-pub mod PastHeader
+pub mod SameIndex
 pub mod ScanAlike
 pub mod SparedIndex
 pub mod UpdateOver

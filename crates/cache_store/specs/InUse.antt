@@ -1,5 +1,5 @@
 -- An index that stays in use: it stands through a session, and only its journal is written.
-use Rattle.std.specs.Prelude.{List, Option, Some, [], drop, length, option_map, true, ℕ, ⊤, ◌<◌, ◌≡◌, ◌≢◌}
+use Rattle.std.specs.Prelude.{List, Option, Some, [], drop, length, option_map, take, true, ℕ, ⊤, ◌+◌, ◌<◌, ◌≡◌, ◌≢◌}
 use Rattle.cache_base.specs.declared.limits.TheConstants.{CHANGED_MAX}
 use Rattle.cache_base.specs.declared.name.Name.{Name}
 use Rattle.cache_store.specs.Open.{Represents, Tells}
@@ -12,7 +12,7 @@ use Rattle.disk_theory.specs.Image.{Files}
 use Rattle.disk_theory.specs.State.{State, settled, standing}
 use Rattle.disk_theory.specs.declared.place.Place.TheVariants.{Index, Log}
 use Rattle.doom_area.specs.DoomArea.{RemovesDoomed}
-use Rattle.index_file.specs.Index.{header_size}
+use Rattle.index_file.specs.Index.{flag_at}
 use Rattle.index_journal.specs.Journal.{JournalSpells}
 use Rattle.index_map.specs.Known.{IsKnown, Known, changed}
 use Rattle.index_record.specs.declared.record.IndexRecord.{IndexRecord}
@@ -24,9 +24,18 @@ use Rattle.record_list.specs.Change.{IsDiff}
 use Rattle.record_list.specs.Lists.{record_at}
 use Rattle.startup_read.specs.Closing.{ClosesIndex}
 
--- an index past its header
-abbrev pub past_header : Option (List ℕ) → Option (List ℕ)
-past_header file = option_map (drop header_size) file
+-- the bytes of an index before its flag: its version and its timestamp
+abbrev pub before_flag : Option (List ℕ) → Option (List ℕ)
+before_flag file = option_map (take flag_at) file
+
+-- and those behind it
+abbrev pub behind_flag : Option (List ℕ) → Option (List ℕ)
+behind_flag file = option_map (drop (flag_at + 4)) file
+
+-- the index is the same, but for its flag
+pub record IsSameIndex (s t : State) : Type 0 where
+  pub front : before_flag (standing t Index) ≡ before_flag (standing s Index)
+  pub behind : behind_flag (standing t Index) ≡ behind_flag (standing s Index)
 
 -- an index stands, and few records differ from it, where the map is as all maps are
 pub record HasFewChanges (map : Known) : Type 0 where
@@ -45,10 +54,10 @@ pub record HoldsBase (records : List IndexRecord) (map : Known) : Type 0 where
   pub has_base : map.has_base ≡ true
   pub same : (name : Name) → record_at map.base name ≡ record_at records name
 
--- the base are the records of the index that stood, which is unchanged past its header
+-- the base are the records of the index that stood, which is the same but for its flag
 pub record IsBasedOn (s : State) (map : Known) (t : State) : Type 0 where
   pub base : HoldsBase (index_records (standing s Index)) map
-  pub past : past_header (standing t Index) ≡ past_header (standing s Index)
+  pub same : IsSameIndex s t
 
 -- so it is after an opening, unless no index could be read
 abbrev pub OpensInUse : State → Known → State → Type 0
@@ -70,9 +79,9 @@ pub record HasJournalOf (base now : List IndexRecord) (files : Files) : Type 0 w
   pub spells : JournalSpells bytes changes
   pub diff : IsDiff base now changes
 
--- the index is unchanged past its header, and the journal spells what differs between its records and those now
+-- the index is the same but for its flag, and the journal spells what differs between its records and those now
 pub record StaysInUse (base now : List IndexRecord) (s t : State) : Type 0 where
-  pub past : past_header (standing t Index) ≡ past_header (standing s Index)
+  pub same : IsSameIndex s t
   pub journal : HasJournalOf base now (standing t)
 
 -- once the update has ended a closing writes a short journal; and no index, where few records differ from it

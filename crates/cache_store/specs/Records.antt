@@ -1,5 +1,5 @@
 -- What the records in memory say of the entries.
-use Rattle.std.specs.Prelude.{Bool, List, None, Some, [], drop, is_some, take, ℕ, ⊤, ◌≡◌, ◌≢◌}
+use Rattle.std.specs.Prelude.{Bool, List, Some, [], is_some, ℕ, ⊤, ◌≡◌}
 use Rattle.cache_base.specs.declared.name.Name.{Name}
 use Rattle.cache_replies.specs.Answers.{reply_of}
 use Rattle.cache_replies.specs.declared.answered.Answered.{Answered}
@@ -12,15 +12,11 @@ use Rattle.cache_theory.specs.Table.{get}
 use Rattle.entry_name.specs.EntryName.{file_name}
 use Rattle.file_handles.specs.Effects.{once, rest_once}
 use Rattle.file_handles.specs.declared.fault.Effect.{Effect}
-use Rattle.index_map.specs.Known.{Known, SameBase}
-use Rattle.index_record.specs.declared.record.IndexRecord.{IndexRecord}
+use Rattle.index_map.specs.Known.{SameBase}
 use Rattle.index_theory.specs.Ever.{Entries}
 use Rattle.index_theory.specs.Scan.{scanned}
-use Rattle.index_update.specs.Reads.{ReadsIn}
-use Rattle.index_update.specs.Rest.{name_bytes, without}
-use Rattle.index_update.specs.Slices.{ReadsSlice}
-use Rattle.index_update.specs.Tells.{TellsAll, TellsSeen}
-use Rattle.record_list.specs.Lists.{AreSorted, record_at}
+use Rattle.index_update.specs.Rest.{name_bytes}
+use Rattle.record_list.specs.Lists.{record_at}
 use Rattle.memory_index.specs.Records.{EndsWith, StepsUpdate, TellsOf}
 
 -- the scan changes by what is learnt

@@ -43,6 +43,7 @@ ends_by_disk ended before now ends = record {
         journal = λ closing. absurd closing;
         in_use = λ records closing. absurd closing;
         unended = λ closing. absurd closing;
+        untrusted = λ closing. absurd closing;
         dated = λ closing. absurd closing;
       };
   mark = ends.mark;

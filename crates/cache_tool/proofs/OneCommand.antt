@@ -1,5 +1,5 @@
 -- What one command of a session comes to.
-use Rattle.std.proofs.Common.{◌≡◌, ◌≢◌, ◌⊎◌, ⊎_elim, inl, inr, ℕ, ◌∷◌, ◌∙◌, [], List, length, Option, Result, Ok, Err, refl, sym, ap, subst, arith}
+use Rattle.std.proofs.Common.{◌≡◌, ◌≢◌, ◌≤◌, ◌+◌, ◌*◌, ◌⊎◌, ⊎_elim, inl, inr, ℕ, ◌∷◌, ◌∙◌, [], List, length, Option, Result, Ok, Err, refl, sym, ap, subst, arith}
 use Rattle.std.specs.Io.KnownBytes.{Appends}
 use Rattle.std.specs.Prelude.{IsOkAnd, MatchResult, OnErr, OnOk}
 use Rattle.std.proofs.KnownBytes.{Appends-nil, Keeps-refl}
@@ -8,6 +8,7 @@ use Rattle.cache_base.specs.Causes.{Rose}
 use Rattle.cache_base.specs.declared.status.Status.{Status}
 use Rattle.cache_base.specs.declared.status.Status.TheVariants as status
 use Rattle.cache_replies.specs.Answers.{outcome_of}
+use Rattle.entry_file.specs.Looks.{meta_looks}
 use Rattle.cache_store.specs.Faulting.{StaysAs}
 use Rattle.cache_store.specs.Faults.{ending, fault_ending}
 use Rattle.cache_store.specs.Open.{LeavesOpen, StartsOn}
@@ -27,7 +28,7 @@ use Rattle.cache_theory.specs.Machine.{Machine}
 use Rattle.cache_theory.specs.Step.{step}
 use Rattle.cache_theory.specs.Text.{IsSpoken, reply_text}
 use Rattle.cache_theory.proofs.Faults.RepliesApart.{step_spoken}
-use Rattle.cache_tool.specs.Beginning.{BeginsRun, FailsToBegin}
+use Rattle.cache_tool.specs.Beginning.{BeginsRun, FailsToBegin, ReadsNone}
 use Rattle.cache_tool.specs.Ending.{EndsSession}
 use Rattle.cache_tool.specs.Right.{LeadTo}
 use Rattle.cache_tool.specs.Syncs.{SyncsWithin, opening_syncs}
@@ -112,15 +113,20 @@ disk_failed fault.Memory ended is disk = absurd (let e : status.Memory ≡ statu
 disk_failed fault.Disk ended is disk = refl
 disk_failed fault.Sink ended is disk = absurd (let e : status.Sink ≡ status.Disk = sym is ∙ disk in cc)
 
+-- a bound of no looks
+pub none_read : {m n : ℕ} → n ≤ m + meta_looks * 0 → n ≤ m
+none_read few = omega (arith, few)
+
 pub not_begun : {moment : ℕ} {counts : Counts} {T : Type 0} (before : Output) (t : State) (faults : ℕ) (answer : Result T StoreFault) (f : StoreFault) (ended : Status) → answer ≡ Err f → answer ≢ Err fault.Sink → ended ≡ status_in (Err f)
-    → (ending answer ≡ Ending.OneFailed → Rose before.disk_faults faults) → (ending answer ≡ Ending.OneFailed → LastCallFails counts) → SyncsWithin opening_syncs before.disk_counts counts → FailsToBegin moment before.disk t
+    → (ending answer ≡ Ending.OneFailed → Rose before.disk_faults faults) → (ending answer ≡ Ending.OneFailed → LastCallFails counts) → ReadsNone before.disk before.disk_counts counts → SyncsWithin opening_syncs before.disk_counts counts → FailsToBegin moment before.disk t
     → (m : Machine) → StartsOn moment before.disk m → HasNotBegun m ended before (record before { disk = t; disk_faults = faults; disk_counts = counts })
-not_begun before t faults answer f ended failed no_sink same rose last syncs fails m is =
+not_begun before t faults answer f ended failed no_sink same rose last none syncs fails m is =
     let stop : IsStop ended = no_sink_stops answer f ended failed no_sink same in
     record {
       failed = stop;
       rose = λ disk. rose (ap ending failed ∙ disk_failed f ended same disk);
       last = λ disk. last (ap ending failed ∙ disk_failed f ended same disk);
+      no_entry = none;
       silent = Keeps-refl before.taken;
       mark = leaves_mark [] before.disk t fails.mark;
       syncs = syncs;

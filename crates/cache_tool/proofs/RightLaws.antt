@@ -1,13 +1,14 @@
 -- What some commands say by the records in memory, and where these come to be right.
-use Rattle.std.proofs.Common.{◌≡◌, inl, inr, ℕ, List, [], ◌∷◌, ◌++◌, true, IsTrue, refl, ap, sym, subst, ◌∙◌, true≢false}
+use Rattle.std.proofs.Common.{◌≡◌, inl, inr, ℕ, List, [], ◌∷◌, ◌++◌, true, IsTrue, refl, sym, subst, ◌∙◌, true≢false}
 use Rattle.std.proofs.lemmas.Bool.{or_cases}
 use Rattle.std.proofs.lemmas.List.Folds.{list_any-append}
 use Rattle.cache_store.specs.Faulting.{StaysAs}
-use Rattle.cache_store.specs.InUse.{HoldsBase, past_header}
+use Rattle.cache_store.specs.InUse.{HoldsBase, IsSameIndex}
 use Rattle.cache_store.specs.Open.{IsOpen, KeepsTo, Opens, StartsOn, Tells}
 use Rattle.cache_store.specs.Performing.{ComesToTell}
 use Rattle.cache_store.specs.Session.{Session}
 use Rattle.cache_store.proofs.Performing.PerformWhole.{begun_stands}
+use Rattle.cache_store.proofs.Records.SameIndex.{is_same, same_then}
 use Rattle.cache_store.proofs.Performing.Represented.{keeps_marked, keeps_to, represents}
 use Rattle.cache_theory.specs.Command.{Command}
 use Rattle.cache_theory.specs.Command.Command.{Rebuild}
@@ -16,12 +17,11 @@ use Rattle.cache_theory.specs.History.{History, acked, begun, unanswered}
 use Rattle.cache_theory.specs.Machine.{Machine}
 use Rattle.cache_theory.specs.Step.{after}
 use Rattle.cache_tool.proofs.Dated.{none_dated, one_dated, dated_on}
-use Rattle.cache_tool.specs.Dated.{IsDatedIn}
+use Rattle.cache_tool.specs.Dated.{AreDatedBy}
 use Rattle.cache_tool.specs.Right.{AreRight, ComesRight, LeadTo, has_rebuild, is_rebuild}
-use Rattle.cache_tool.specs.Staying.{AreSpared, IsInUse, KeepsPast, StaysOnce, StaysOverAll}
+use Rattle.cache_tool.specs.Staying.{AreSpared, IsInUse, StaysOnce, StaysOverAll}
 use Rattle.cache_tool.proofs.StayingLaws.{both_in_use, none_in_use, same_in_use, spared_split, stays_split}
-use Rattle.disk_theory.specs.State.{State, standing}
-use Rattle.disk_theory.specs.declared.place.Place.TheVariants.{Index}
+use Rattle.disk_theory.specs.State.{State}
 use Rattle.index_map.specs.Known.{SameBase}
 use Rattle.index_record.specs.declared.record.IndexRecord.{IndexRecord}
 use Rattle.index_theory.specs.Honest.{LeavesHonest}
@@ -43,7 +43,7 @@ one_is_right c before m (inr rebuilt) = inr (rebuild_is c rebuilt)
 
 -- no command
 pub leads_none : (now : Session) (h : History) → KeepsTo now h → LeadTo [] now h.machine now h
-leads_none now h keeps = record { keeps = keeps; tells = tells; in_use = λ records told holds over. none_in_use records now holds; unended = λ spared. refl; dated = none_dated h.machine now.disk }
+leads_none now h keeps = record { keeps = keeps; tells = tells; in_use = λ records told holds over. none_in_use records now holds; unended = λ spared. is_same now.disk now.disk refl; dated = none_dated h.machine now.disk }
   where
     tells : AreRight [] now h.machine → Tells now h.machine
     tells (inl told) = told
@@ -82,10 +82,10 @@ leads_on cs ds before m mid g now h same first second = record { keeps = second.
         let here = first.in_use records told holds parts.0 in
         both_in_use records before mid now here (second.in_use records (first.tells (inl told)) here.base (subst (λ x. StaysOverAll records x ds) (sym same) parts.1))
 
-    unended : AreSpared m (cs ++ ds) → KeepsPast before.disk now.disk
+    unended : AreSpared m (cs ++ ds) → IsSameIndex before.disk now.disk
     unended spared =
         let parts = spared_split m cs ds spared in
-        second.unended (subst (λ x. AreSpared x ds) (sym same) parts.1) ∙ first.unended parts.0
+        same_then before.disk mid.disk now.disk (first.unended parts.0) (second.unended (subst (λ x. AreSpared x ds) (sym same) parts.1))
 
     tells : AreRight (cs ++ ds) before m → Tells now h.machine
     tells (inl told) = second.tells (inl (first.tells (inl told)))
@@ -103,8 +103,8 @@ leads_still cs before m mid now h leads stays base = record {
   in_use = λ records told holds over.
       let here = leads.in_use records told holds over in
       both_in_use records before mid now here (same_in_use records mid now base stays.disk here.base);
-  unended = λ spared. ap (λ s. past_header (standing s Index)) stays.disk ∙ leads.unended spared;
-  dated = subst (IsDatedIn m cs before.disk) (sym stays.disk) leads.dated;
+  unended = λ spared. subst (IsSameIndex before.disk) (sym stays.disk) (leads.unended spared);
+  dated = subst (AreDatedBy m cs before.disk) (sym stays.disk) leads.dated;
 }
 
 -- ---- after an opening

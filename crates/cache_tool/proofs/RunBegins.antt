@@ -4,7 +4,7 @@ use Rattle.std.specs.Prelude.{OnErr}
 use Rattle.cache_store.specs.AtClear.{ChangesAtClear}
 use Rattle.cache_store.specs.Clearing.{LeavesResumed}
 use Rattle.cache_store.specs.DoneFor.{IsResumedBy}
-use Rattle.cache_store.specs.InUse.{OpensInUse}
+use Rattle.cache_store.specs.InUse.{IsSameIndex, OpensInUse}
 use Rattle.cache_store.specs.Open.{BeginsOn, Opens, OpensHonestly, StartsOn, Tells}
 use Rattle.cache_store.specs.Performing.{GoesBy, PerformsFor}
 use Rattle.cache_store.specs.Session.{Session}
@@ -18,7 +18,6 @@ use Rattle.cache_theory.specs.Crash.{IsSafe}
 use Rattle.cache_theory.specs.History.{History, acked, begun, settled_at}
 use Rattle.cache_theory.specs.Machine.{Machine}
 use Rattle.cache_theory.specs.Marks.{marks_of}
-use Rattle.cache_tool.specs.Dated.{IsSameIndex}
 use Rattle.cache_tool.specs.Beginning.{BeginsRun, FailsToBegin}
 use Rattle.cache_tool.specs.Staying.{StaysFor}
 use Rattle.cache_tool.proofs.DoneLaws.{done_right, resumed_at_opening}

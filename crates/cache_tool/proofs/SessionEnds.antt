@@ -41,6 +41,7 @@ stops_leave m r ended s t still safe images = record {
   images = images;
   journal = λ closing over. absurd (still closing);
   index = λ closing. absurd (still closing);
+  untrusted = λ closing. absurd (still closing);
   dated = λ closing. absurd (still closing);
 }
 
@@ -53,6 +54,7 @@ leaves_at m r ended final s t closes leaves = record {
   images = leaves.images;
   journal = λ closing. leaves.journal (closes closing);
   index = λ closing. leaves.index (closes closing);
+  untrusted = λ closing. leaves.untrusted (closes closing);
   dated = λ closing. leaves.dated (closes closing);
 }
 
@@ -98,6 +100,7 @@ module _ {moment : ℕ} (s : State) (mid : Session) (begins : BeginsRun moment s
           images = λ quiet honest. end.images (all.tells (inl (begins.opens.tells m is honest)));
           journal = λ closing over. end.journal closing (ap (λ (x : Machine). x.rest) same ∙ over);
           index = stays_whole s t m begins.first last (first_done ∷ cs) h ended begins.opens is begins.based all end same;
+          untrusted = λ closing rest. end.untrusted closing (λ none. rest (ap (λ (x : Machine). x.rest) (sym same) ∙ none));
           dated = λ closing. dated_whole m h.machine (first_done ∷ cs) s begins.first.disk last.disk t same begins.same all.dated (end.dated closing);
         }
 

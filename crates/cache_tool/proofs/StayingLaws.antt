@@ -7,12 +7,13 @@ use Rattle.std.proofs.lemmas.Bool.{or_left}
 use Rattle.std.proofs.lemmas.Slice.Eq.{bytes_eq-Decides}
 use Rattle.cache_base.specs.declared.status.Status.{Status}
 use Rattle.cache_store.specs.DoneFor.{IsDoneFor}
-use Rattle.cache_store.specs.InUse.{ClosesInUse, HasJournalOf, HasShortJournal, HoldsBase, OpensInUse, SparesIndex, StaysInUse, StaysOver, past_header}
+use Rattle.cache_store.specs.InUse.{ClosesInUse, HasJournalOf, HasShortJournal, HoldsBase, OpensInUse, SparesIndex, StaysInUse, StaysOver}
 use Rattle.cache_store.specs.Open.{KeepsTo, Opens, Represents, StartsOn, Tells}
 use Rattle.cache_store.specs.Performing.{HadEffect}
 use Rattle.cache_store.specs.Session.{Session}
 use Rattle.cache_store.specs.declared.fault.StoreFault.{StoreFault}
 use Rattle.cache_store.proofs.Records.InUseLaws.{few_are_spared, few_stay_in_use}
+use Rattle.cache_store.proofs.Records.SameIndex.{is_same, same_then}
 use Rattle.cache_store.proofs.Performing.Represented.{represents}
 use Rattle.cache_theory.specs.Command.{Command}
 use Rattle.cache_theory.specs.Command.Command.{ClearOrigin, Evict, Flush, HasEntry, ListRecords, Rebuild, Resume, Verify}
@@ -21,14 +22,15 @@ use Rattle.cache_theory.specs.Machine.{Machine}
 use Rattle.cache_theory.specs.Checks.{checks}
 use Rattle.cache_theory.specs.Step.{after, effect, step}
 use Rattle.cache_theory.proofs.Waiting.{changes_leave_rest}
+use Rattle.cache_tool.proofs.Dated.{written_done, written_where}
 use Rattle.cache_tool.specs.Verbs.{KeepsIndex}
-use Rattle.cache_tool.specs.Dated.{IsDatedAt}
+use Rattle.cache_tool.specs.Dated.{IsWrittenBy}
 use Rattle.cache_tool.specs.Ending.{IsEnded}
 use Rattle.cache_tool.specs.Right.{LeadTo}
 use Rattle.cache_tool.specs.Statuses.{IsClosing}
-use Rattle.cache_tool.specs.Staying.{AreSpared, EndsInUse, IsInUse, IsSpared, StaysFor, StaysOnce, StaysOverAll}
+use Rattle.cache_tool.specs.Staying.{AreSpared, EndsInUse, IsInUse, IsLeftUntrusted, IsSpared, StaysFor, StaysOnce, StaysOverAll}
 use Rattle.disk_theory.specs.State.{State, standing}
-use Rattle.disk_theory.specs.declared.place.Place.TheVariants.{Index}
+use Rattle.disk_theory.specs.declared.place.Place.TheVariants.{Index, Log, Tmp}
 use Rattle.index_map.specs.Known.{Known, SameBase}
 use Rattle.index_record.specs.declared.record.IndexRecord.{IndexRecord}
 use Rattle.index_theory.specs.Honest.{index_records}
@@ -47,10 +49,10 @@ stays_split records m [] ds over = (tt, over)
 stays_split records m (c ∷ cs) ds over = let rest = stays_split records (step m c).next cs ds over.1 in ((over.0, rest.0), rest.1)
 
 pub none_in_use : (records : List IndexRecord) (now : Session) → HoldsBase records now.open_store.index.map → IsInUse records now now
-none_in_use records now holds = record { base = holds; past = refl }
+none_in_use records now holds = record { base = holds; same = is_same now.disk now.disk refl }
 
 pub both_in_use : (records : List IndexRecord) (before mid now : Session) → IsInUse records before mid → IsInUse records mid now → IsInUse records before now
-both_in_use records before mid now first second = record { base = second.base; past = second.past ∙ first.past }
+both_in_use records before mid now first second = record { base = second.base; same = same_then before.disk mid.disk now.disk first.same second.same }
 
 -- ---- while the update has not ended
 
@@ -98,13 +100,14 @@ holds_as records base holds = record { has_base = base.has_base ∙ holds.has_ba
 -- it leaves the files of the index and the base in memory as they are
 pub stays_for : {T : Type 0} (c : Command) (answer : Result T StoreFault) (before now : Session) → (SparesIndex c before.open_store.index → LeavesIndex before.disk now.disk)
     → (SparesIndex c before.open_store.index → HadEffect answer → SameBase before.open_store.index.map now.open_store.index.map)
-    → (HadEffect answer → IsDatedAt before.open_store.moment before.disk now.disk) → StaysFor c answer before now
+    → (HadEffect answer → IsWrittenBy c (before.open_store.index.update ≡ []) before.open_store.moment before.disk now.disk) → StaysFor c answer before now
 stays_for c answer before now leaves same dated = λ m stands had. record {
   in_use = λ records told holds over.
       let spares = few_are_spared records before m c stands told holds over in
-      record { base = holds_as records (same spares had) holds; past = ap past_header ((leaves spares).stands Index tt) };
-  unended = λ spared. ap past_header ((leaves (spares_unended before m c stands spared)).stands Index tt);
-  dated = subst (λ n. IsDatedAt n before.disk now.disk) (sym stands.matches.moment) (dated had);
+      record { base = holds_as records (same spares had) holds; same = is_same before.disk now.disk ((leaves spares).stands Index tt) };
+  unended = λ spared. is_same before.disk now.disk ((leaves (spares_unended before m c stands spared)).stands Index tt);
+  dated = subst (λ n. IsWrittenBy c (m.rest ≡ []) n before.disk now.disk) (sym stands.matches.moment)
+      (written_where c before.open_store.moment before.disk now.disk (λ none. stands.matches.rest ∙ ap name_bytes none) (dated had));
 }
 
 -- and so it does where all is as it was
@@ -112,7 +115,7 @@ pub same_in_use : (records : List IndexRecord) (before now : Session) → SameBa
     → IsInUse records before now
 same_in_use records before now base same holds = record {
   base = holds_as records base holds;
-  past = ap (λ s. past_header (standing s Index)) same;
+  same = is_same before.disk now.disk (ap (λ s. standing s Index) same);
 }
 
 -- and so it is of what is done for it
@@ -138,7 +141,7 @@ pub stays_done : (right : Type 0) (c : Command) (before : Session) (m : Machine)
 stays_done right c before m now d is stays = record {
   in_use = λ records told holds over. stays.in_use records told holds (stays_over right records c m d is over);
   unended = λ spared. stays.unended (spared_over right c m d is spared);
-  dated = stays.dated;
+  dated = written_done (m.rest ≡ []) right c m d m.moment before.disk now.disk is stays.dated;
 }
 
 -- ---- at the end of a session
@@ -154,6 +157,14 @@ module _ (before : Session) (t : State) (h : History) (keeps : KeepsTo before h)
   pub ends_in_use : (records : List IndexRecord) → Tells before h.machine → HoldsBase records before.open_store.index.map → EndsInUse records h.machine
       → StaysInUse records (scan h.machine.shelf) before.disk t
   ends_in_use records told holds ends = few_stay_in_use records before h.machine t (represents keeps) told holds ends.ended ends.few closes
+
+-- before the update has ended no index is trusted then, as none is while the store is open
+pub ends_untrusted : (before : Session) (t : State) (h : History) → KeepsTo before h → LeavesIndex before.disk t → IsLeftUntrusted t
+ends_untrusted before t h keeps left = record {
+  unclean = left.unclean keeps.matches.holds.apart keeps.matches.holds.unclean;
+  no_log = left.stands Log tt ∙ keeps.matches.holds.files.no_log;
+  no_tmp = left.stands Tmp tt ∙ keeps.matches.holds.files.no_tmp;
+}
 
 -- ---- over a whole session
 
@@ -172,10 +183,10 @@ stays_whole s t m first last cs h ended opens is based leads closed same = λ cl
           let on = leads.in_use base told begins.base over in
           let last_stays = closed.in_use base closing (leads.tells (inl told)) on.base (subst (EndsInUse base) (sym same) ends) in
           record {
-            past = last_stays.past ∙ on.past ∙ begins.past;
+            same = same_then s first.disk t begins.same (same_then first.disk last.disk t on.same last_stays.same);
             journal = subst (λ (x : Machine). HasJournalOf base (scan x.shelf) (standing t)) same last_stays.journal;
           };
       unended = λ rest.
           let left = closed.unended closing (λ none. rest (ap (λ (x : Machine). x.rest) (sym same) ∙ none)) in
-          ap past_header (left.stands Index tt) ∙ leads.unended (are_spared m cs rest) ∙ begins.past;
+          same_then s first.disk t begins.same (same_then first.disk last.disk t (leads.unended (are_spared m cs rest)) (is_same last.disk t (left.stands Index tt)));
     }

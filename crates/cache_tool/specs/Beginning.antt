@@ -1,10 +1,10 @@
 -- What each run begins with: the store is opened, and the clearing is done that an earlier run left undone.
-use Rattle.std.specs.Prelude.{List, None, Option, [], ℕ, ◌∷◌, ◌≡◌, ◌⊎◌}
+use Rattle.std.specs.Prelude.{List, None, Option, [], ℕ, ◌∷◌, ◌≡◌, ◌≤◌, ◌⊎◌}
 use Rattle.cache_base.specs.declared.name.Name.{Name}
 use Rattle.cache_store.specs.Clearing.{LeavesResumed}
 use Rattle.cache_store.specs.DoneFor.{AreOfShelf, DoneBy, IsOfShelf, IsResumedBy}
 use Rattle.memory_index.specs.Forgetting.{AreOthers}
-use Rattle.cache_store.specs.InUse.{OpensInUse}
+use Rattle.cache_store.specs.InUse.{IsSameIndex, OpensInUse}
 use Rattle.cache_store.specs.Open.{BeginsOn, Opens, OpensHonestly, StartsOn}
 use Rattle.cache_store.specs.Performing.{GoesBy}
 use Rattle.cache_store.specs.Session.{Session}
@@ -15,13 +15,13 @@ use Rattle.cache_theory.specs.History.{acked, settled_at}
 use Rattle.cache_theory.specs.Machine.{Machine}
 use Rattle.cache_theory.specs.Marks.{marks_of}
 use Rattle.cache_theory.specs.Step.{step}
-use Rattle.cache_tool.specs.Dated.{IsSameIndex}
 use Rattle.cache_tool.specs.MarkLeft.{ChangesMark}
 use Rattle.cache_tool.specs.Right.{LeadTo}
 use Rattle.context_clear.specs.Mark.{mark_of}
+use Rattle.disk_theory.specs.Calls.{Counts}
 use Rattle.disk_theory.specs.Sound.{IsQuiet}
 use Rattle.disk_theory.specs.State.{State, standing}
-use Rattle.disk_theory.specs.declared.place.Place.TheVariants.{Index, Log}
+use Rattle.disk_theory.specs.declared.place.Place.TheVariants.{Clear, Index, Log}
 use Rattle.index_record.specs.declared.record.IndexRecord.{IndexRecord}
 use Rattle.index_theory.specs.Honest.{Honest, index_records, journal_records}
 use Rattle.index_theory.specs.Start.{start_of}
@@ -98,3 +98,8 @@ pub record FailsToBegin (moment : ℕ) (s t : State) : Type 0 where
 -- no entry is looked at: no mark of an origin stands, or the index is trusted
 abbrev pub ReadsNoEntry : Option ℕ → Start → Type 0
 ReadsNoEntry mark start = (mark ≡ None) ⊎ (start ≡ Ready)
+
+-- so it is with these counts, over what stood at the call
+abbrev pub ReadsNone : State → Counts → Counts → Type 0
+ReadsNone s before now = ReadsNoEntry (mark_of (standing s Clear)) (start_of (standing s))
+    → now.entry_reads ≤ before.entry_reads

@@ -6,10 +6,10 @@ use Rattle.cache_store.specs.Open.{IsHonest, IsShut, KeepsTo, Tells}
 use Rattle.cache_store.specs.Session.{Session}
 use Rattle.cache_theory.specs.Crash.{IsSafe}
 use Rattle.cache_theory.specs.History.{History}
-use Rattle.cache_tool.specs.Dated.{IsDatedAt}
+use Rattle.cache_tool.specs.Dated.{MayBeWritten}
 use Rattle.cache_tool.specs.MarkLeft.{KeepsMark}
 use Rattle.cache_tool.specs.Statuses.{IsClosing}
-use Rattle.cache_tool.specs.Staying.{EndsInUse}
+use Rattle.cache_tool.specs.Staying.{EndsInUse, IsLeftUntrusted}
 use Rattle.disk_theory.specs.State.{State, standing}
 use Rattle.index_record.specs.declared.record.IndexRecord.{IndexRecord}
 use Rattle.index_theory.specs.Leaves.{LeavesIndex}
@@ -28,10 +28,12 @@ pub record IsEnded (ended : Status) (h : History) (before : Session) (now : Stat
   pub in_use : (records : List IndexRecord) → IsClosing ended → Tells before h.machine
       → HoldsBase records before.open_store.index.map → EndsInUse records h.machine
       → StaysInUse records (scan h.machine.shelf) before.disk now
-  -- before the update has ended the files of the index are left alone
+  -- before the update has ended the files of the index are left alone, and none is trusted
   pub unended : IsClosing ended → h.machine.rest ≢ [] → LeavesIndex before.disk now
+  pub untrusted : IsClosing ended → h.machine.rest ≢ [] → IsLeftUntrusted now
   -- and an index that was written has the moment of the machine
-  pub dated : IsClosing ended → IsDatedAt h.machine.moment before.disk now
+  pub dated : IsClosing ended
+      → MayBeWritten (h.machine.rest ≡ []) h.machine.moment before.disk now
 
 -- whatever history the disk kept to
 pub record EndsSession (ended : Status) (before : Session) (now : State) : Type 0 where

@@ -1,15 +1,15 @@
 -- Where the records in memory are right, and what is said where they are.
 use Rattle.std.specs.List.{list_any}
 use Rattle.std.specs.Prelude.{Bool, IsTrue, List, false, true, ◌⊎◌}
-use Rattle.cache_store.specs.InUse.{HoldsBase}
+use Rattle.cache_store.specs.InUse.{HoldsBase, IsSameIndex}
 use Rattle.cache_store.specs.Open.{KeepsTo, Tells}
 use Rattle.cache_store.specs.Session.{Session}
 use Rattle.cache_theory.specs.Command.{Command}
 use Rattle.cache_theory.specs.Command.Command.{Rebuild}
 use Rattle.cache_theory.specs.History.{History}
 use Rattle.cache_theory.specs.Machine.{Machine}
-use Rattle.cache_tool.specs.Dated.{IsDatedIn}
-use Rattle.cache_tool.specs.Staying.{AreSpared, IsInUse, KeepsPast, StaysOverAll}
+use Rattle.cache_tool.specs.Dated.{AreDatedBy}
+use Rattle.cache_tool.specs.Staying.{AreSpared, IsInUse, StaysOverAll}
 use Rattle.disk_theory.specs.State.{State, standing}
 use Rattle.index_record.specs.declared.record.IndexRecord.{IndexRecord}
 use Rattle.index_theory.specs.Honest.{Honest}
@@ -45,6 +45,6 @@ pub record LeadTo (cs : List Command) (before : Session) (m : Machine) (now : Se
       → HoldsBase records before.open_store.index.map
       → StaysOverAll records m cs → IsInUse records before now
   -- and before the update has ended it is unchanged, whatever the records are
-  pub unended : AreSpared m cs → KeepsPast before.disk now.disk
+  pub unended : AreSpared m cs → IsSameIndex before.disk now.disk
   -- and an index that was written has the moment of the machine then
-  pub dated : IsDatedIn m cs before.disk now.disk
+  pub dated : AreDatedBy m cs before.disk now.disk

@@ -6,7 +6,7 @@ use Rattle.cache_base.specs.declared.status.Status.{Status}
 use Rattle.cache_base.specs.declared.status.Status.TheVariants as status
 use Rattle.cache_replies.specs.Answers.{outcome_of}
 use Rattle.cache_store.specs.Faulting.{SendsReplyFront}
-use Rattle.cache_store.specs.InUse.{HasShortJournal, StaysInUse}
+use Rattle.cache_store.specs.InUse.{HasShortJournal, IsSameIndex, StaysInUse}
 use Rattle.cache_store.specs.Open.{IsHonest, IsShut, StartsOn}
 use Rattle.cache_replies.specs.Said.{IsCut}
 use Rattle.cache_replies.specs.Saying.{IsPart}
@@ -20,7 +20,7 @@ use Rattle.cache_theory.specs.Marks.{Marks, marks_of}
 use Rattle.cache_theory.specs.Session.{BeginsWith, marks_between}
 use Rattle.cache_theory.specs.Step.{after, step}
 use Rattle.cache_theory.specs.Text.{CommandsIn, ScriptSpells, reply_text}
-use Rattle.cache_tool.specs.Beginning.{DoneAtOpening, DoneOnResumed, ReadsNoEntry}
+use Rattle.cache_tool.specs.Beginning.{DoneAtOpening, DoneOnResumed, ReadsNoEntry, ReadsNone}
 use Rattle.cache_tool.specs.Dated.{IsDatedIn}
 use Rattle.cache_tool.specs.DoneFor.{AreDoneFor}
 use Rattle.cache_tool.specs.MarkLeft.{LeavesMark}
@@ -29,7 +29,7 @@ use Rattle.cache_tool.specs.Replies.{last_reply}
 use Rattle.cache_tool.specs.Right.{ComesRight}
 use Rattle.cache_tool.specs.Script.{AreTaken, bad_line, performed}
 use Rattle.cache_tool.specs.Statuses.{IsAnswer, IsClosing, status_of}
-use Rattle.cache_tool.specs.Staying.{EndsInUse, KeepsPast, StaysOverAll}
+use Rattle.cache_tool.specs.Staying.{EndsInUse, IsLeftUntrusted, StaysOverAll}
 use Rattle.cache_tool.specs.Syncs.{SyncsWithin, opening_syncs, run_syncs}
 use Rattle.cache_tool.specs.Tally.{RoseBy}
 use Rattle.cache_tool.specs.World.{Output, World, output_of}
@@ -88,13 +88,12 @@ one_begun_after m d acked with_last ended cs = record {
 
 -- what a session over these commands leaves of an index that could be read, where it held s and holds t
 pub record KeepsIndex (m : Machine) (cs : List Command) (s t : State) : Type 0 where
-  -- in an honest directory it stays in use, where few records differ from it in the end: it is unchanged past its header,
-  -- and the journal spells what differs
+  -- in an honest directory it stays in use, where few records differ from it in the end
   pub in_use : Honest (standing s) → let base = index_records (standing s Index) in
       StaysOverAll base m cs → EndsInUse base (after m cs)
       → StaysInUse base (scan (after m cs).shelf) s t
-  -- in any directory it is unchanged past its header, where the update has not ended
-  pub unended : (after m cs).rest ≢ [] → KeepsPast s t
+  -- in any directory it is the same, but for its flag, where the update has not ended
+  pub unended : (after m cs).rest ≢ [] → IsSameIndex s t
 
 -- what they leave on a disk that held s and holds t
 pub record LeavesDisk (m : Machine) (r : Reach) (ended : Status) (s t : State) : Type 0 where
@@ -112,7 +111,10 @@ pub record LeavesDisk (m : Machine) (r : Reach) (ended : Status) (s t : State) :
   pub journal : IsClosing ended → (after m r.done).rest ≡ [] → HasShortJournal (standing t)
   -- and of an index that could be read this is left
   pub index : IsClosing ended → start_of (standing s) ≢ Build → KeepsIndex m r.done s t
-  -- an index that was written has the moment of the machine then
+  -- where it has not ended no index is trusted
+  pub untrusted : IsClosing ended → (after m r.done).rest ≢ [] → IsLeftUntrusted t
+  -- none is written but by a `rebuild`, and by a `flush` and the closing once the update has ended; it has the moment of
+  -- the machine then
   pub dated : IsClosing ended → IsDatedIn m r.done s t
 
 -- the text of the last reply is printed, or it is cut
@@ -127,6 +129,8 @@ pub record HasNotBegun (m : Machine) (ended : Status) (before now : Output) : Ty
   pub rose : ended ≡ status.Disk → Rose before.disk_faults now.disk_faults
   -- no call of the disk follows one that failed
   pub last : ended ≡ status.Disk → LastCallFails now.disk_counts
+  -- and none looked at an entry, where no mark of an origin stood or the index is trusted
+  pub no_entry : ReadsNone before.disk before.disk_counts now.disk_counts
   pub silent : Keeps before.taken now.taken
   pub mark : LeavesMark [] before.disk now.disk
   pub syncs : SyncsWithin opening_syncs before.disk_counts now.disk_counts

@@ -1,8 +1,11 @@
 //! Disks in memory, and the files that stand on them.
 
-ghost use Rattle.std.specs.Prelude.{IfOk};
+ghost use Rattle.std.specs.Prelude.{◌≡◌, ◌↔◌, IfOk, IsTrue, MatchOption, None, Some};
 ghost use Rattle.disk_model.specs.MemDisk.{state_in};
 ghost use Rattle.disk_theory.specs.Sound.{IsQuiet};
+ghost use Rattle.disk_theory.specs.State.{standing};
+ghost use Rattle.disk_theory.specs.declared.place.Place.TheVariants.{Entry};
+ghost use Rattle.entry_name.specs.EntryName.{file_name};
 
 use crate::texts::bytes;
 use cache_base::{Bytes, NoMemory};
@@ -13,12 +16,18 @@ use std::alloc::Global;
 use std::test::Fail;
 
 /// The place of the entry of this key.
-pub fn place_of(key: &str) -> Place {
+pub fn place_of(key: &str) -> Place
+    ensures { result ≡ Entry (record { 0 = file_name key.now }) }
+{
     Place::Entry(name_of(key.as_bytes()))
 }
 
 /// Whether this is the file at the place of the key, or none is there.
-pub fn holds(disk: &MemDisk, key: &str, file: Option<&[u8]>) -> bool {
+pub fn holds(disk: &MemDisk, key: &str, file: Option<&[u8]>) -> bool
+    ensures { let stands = standing (state_in disk.now) (Entry (record { 0 = file_name key.now })) in
+        MatchOption file.entry (IsTrue result ↔ stands ≡ None)
+        (λ due. IsTrue result ↔ stands ≡ Some due.now) }
+{
     match (disk.file(&place_of(key)), file) {
         (Some(found), Some(due)) => found == due,
         (None, None) => true,
@@ -27,7 +36,10 @@ pub fn holds(disk: &MemDisk, key: &str, file: Option<&[u8]>) -> bool {
 }
 
 /// The file that stands at the place of the key. Fails where none does, or memory ran out.
-pub fn file_of(alloc: Global, disk: &MemDisk, key: &str) -> Result<Bytes, Fail> {
+pub fn file_of(alloc: Global, disk: &MemDisk, key: &str) -> Result<Bytes, Fail>
+    ensures { IfOk result (λ file.
+        standing (state_in disk.now) (Entry (record { 0 = file_name key.now })) ≡ Some file) }
+{
     match disk.file(&place_of(key)) {
         Some(file) => Ok(bytes(alloc, file)?),
         None => Err(Fail::from("no file")),

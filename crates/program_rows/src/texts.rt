@@ -1,6 +1,6 @@
 //! Bytes, numbers and words in memory.
 
-ghost use Rattle.std.specs.Prelude.{◌≡◌, ◌∷◌, [], IfOk};
+ghost use Rattle.std.specs.Prelude.{◌≡◌, ◌∷◌, ◌++◌, [], IfOk, flat_map, replicate};
 
 use cache_base::{Bytes, NoMemory, Numbers};
 use std::alloc::{AllocError, Global};
@@ -38,7 +38,9 @@ pub fn repeated(
     byte: u8,
     times: usize,
     after: &[u8],
-) -> Result<Bytes, Fail> {
+) -> Result<Bytes, Fail>
+    ensures { IfOk result (λ list. list ≡ before.now ++ replicate times byte ++ after.now) }
+{
     let mut list = bytes(alloc, before)?;
     list.extend(&vec![in alloc; byte; times]?)?;
     list.extend(after)?;
@@ -46,7 +48,9 @@ pub fn repeated(
 }
 
 /// The parts, one after the other. Fails only where memory ran out.
-pub fn joined(alloc: Global, parts: &[&[u8]]) -> Result<Bytes, Fail> {
+pub fn joined(alloc: Global, parts: &[&[u8]]) -> Result<Bytes, Fail>
+    ensures { IfOk result (λ list. list ≡ flat_map (λ part. part.now) parts.now) }
+{
     let mut text = Bytes::new(alloc);
     for index in 0..parts.len() {
         text.extend(parts[index])?;

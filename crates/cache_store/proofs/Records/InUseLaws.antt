@@ -76,6 +76,6 @@ few_stay_in_use records now m t is tells holds rest few closes =
     let ended : now.open_store.index.update ≡ [] = none_left now.open_store.index.update (sym rest ∙ is.matches.rest) in
     let stays : StaysInUse map.base map.records now.disk t = closes.in_use ended (has_few records now m is tells holds ended few) in
     record {
-      past = stays.past;
+      same = stays.same;
       journal = journal_along map.base records map.records (scan m.shelf) _ holds.same (records_are records now m is tells holds ended) stays.journal;
     }

@@ -1,5 +1,5 @@
 -- The base of the index in memory, as the cache is opened.
-use Rattle.std.proofs.Common.{◌≡◌, ◌≢◌, ◌∙◌, List, Result, Ok, Err, refl, sym, ap, subst}
+use Rattle.std.proofs.Common.{◌≡◌, ◌≢◌, ◌∙◌, Bool, true, false, cond, List, Result, Ok, Err, refl, sym, ap, subst}
 use Rattle.std.specs.Prelude.{IfOk, is_some}
 use Rattle.cache_base.specs.Bytes.{be32}
 use Rattle.disk_theory.specs.Image.{Files}
@@ -16,10 +16,11 @@ use Rattle.index_theory.specs.declared.kinds.Start.{Start}
 use Rattle.index_theory.specs.declared.kinds.Start.TheVariants.{Ready, Update, Build}
 use Rattle.startup_read.specs.Opening.{cleared, marked, opened, set_aside}
 use Rattle.startup_read.specs.Starts.{StartsFrom, StartsWith, is_clean}
-use Rattle.cache_store.specs.InUse.{HoldsBase, IsBasedOn, OpensInUse, past_header}
+use Rattle.startup_read.proofs.OpeningSteps.{clean_holds}
+use Rattle.cache_store.specs.InUse.{HoldsBase, IsBasedOn, IsSameIndex, OpensInUse}
 use Rattle.cache_store.specs.Open.{BeginsOn}
 use Rattle.memory_index.specs.declared.memory_index.MemoryIndex.{MemoryIndex}
-use Rattle.cache_store.proofs.Records.PastHeader.{SamePast, either_past, flagged_past}
+use Rattle.cache_store.proofs.Records.SameIndex.{either_same, flagged_same, is_same, same_then}
 
 -- the records of an index that is read are the base
 starts_on_base : (start : Start) (base changes : List IndexRecord) (map : Known) → StartsWith start base changes map → start ≢ Build → HoldsBase base map
@@ -27,21 +28,27 @@ starts_on_base Ready base changes map starts found = record { has_base = starts.
 starts_on_base Update base changes map starts found = record { has_base = starts.has_base; same = starts.base }
 starts_on_base Build base changes map starts found = absurd (found refl)
 
--- an opening writes no byte of it past its header
-opened_past : (s : State) → SamePast s (opened s)
-opened_past s =
+-- an opening writes no byte of it but its flag
+marked_same : (s : State) → IsSameIndex s (marked s)
+marked_same s = go (is_clean (index_kind (standing s Index))) refl
+  where
+    go : (b : Bool) → is_clean (index_kind (standing s Index)) ≡ b → IsSameIndex s (cond b (flagged (be32 1) s) s)
+    go true clean = flagged_same s (be32 1) refl (clean_holds (standing s Index) 4 refl clean)
+    go false clean = is_same s s refl
+
+pub opened_same : (s : State) → IsSameIndex s (opened s)
+opened_same s =
     let a : State = set_aside s in
     let m : State = marked a in
     let u : State = settled m in
-    let aside : SamePast s a = either_past (is_some (standing s Log)) s (renamed Log Tmp s) s refl refl in
-    let flag : SamePast a m = either_past (is_clean (index_kind (standing a Index))) a (flagged (be32 1) a) a (flagged_past a (be32 1) refl) refl in
-    let clear : SamePast u (cleared u) = either_past (is_some (standing u Tmp)) u (removed Tmp u) u refl refl in
-    clear ∙ ap past_header (settled_same m Index) ∙ flag ∙ aside
+    let aside : IsSameIndex s a = either_same (is_some (standing s Log)) s (renamed Log Tmp s) s (is_same s (renamed Log Tmp s) refl) (is_same s s refl) in
+    let clear : IsSameIndex u (cleared u) = either_same (is_some (standing u Tmp)) u (removed Tmp u) u (is_same u (removed Tmp u) refl) (is_same u u refl) in
+    same_then s a (cleared u) aside (same_then a m (cleared u) (marked_same a) (same_then m u (cleared u) (is_same m u (settled_same m Index)) clear))
 
 pub opens_based : (s t : State) (map : Known) → StartsFrom (standing s) map → t ≡ opened s → OpensInUse s map t
 opens_based s t map starts is found = record {
   base = starts_on_base (start_of (standing s)) (index_records (standing s Index)) (journal_records (standing s Log)) map starts found;
-  past = ap (λ (u : State). past_header (standing u Index)) is ∙ opened_past s;
+  same = subst (IsSameIndex s) (sym is) (opened_same s);
 }
 
 -- the same over the same base, on the same disk
@@ -51,7 +58,7 @@ begun_based (Ok index) A s t u map same opens base = λ a found.
     let was = opens a found in
     subst (IsBasedOn s index.map) (sym (same a)) (record {
       base = record { has_base = base.has_base ∙ was.base.has_base; same = λ name. base.records name ∙ was.base.same name };
-      past = was.past;
+      same = was.same;
     })
 begun_based (Err e) A s t u map same opens base = tt
 

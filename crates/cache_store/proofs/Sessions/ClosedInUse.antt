@@ -5,7 +5,7 @@ use Rattle.std.proofs.lemmas.List.Sorted.{length_permutation}
 use Rattle.cache_base.specs.Bytes.{be32}
 use Rattle.cache_base.specs.declared.limits.TheConstants.{CHANGED_MAX}
 use Rattle.cache_base.specs.declared.name.Name.{Name}
-use Rattle.disk_theory.specs.Calls.{if_ok}
+use Rattle.disk_theory.specs.Calls.{HoldsPart, if_ok}
 use Rattle.disk_theory.specs.Sound.{IsSound}
 use Rattle.disk_theory.specs.State.{State, empty_file, settled, standing}
 use Rattle.disk_theory.specs.State.Write.{End, Patch}
@@ -23,15 +23,16 @@ use Rattle.record_list.specs.Lists.{IsByName, names_of}
 use Rattle.record_list.proofs.NameLaws.{rising_distinct}
 use Rattle.record_list.proofs.SortedLaws.{by_name_keeps}
 use Rattle.startup_read.specs.Closing.{ClosesIndex, PrintsChanges}
-use Rattle.startup_read.specs.Kept.{written_map}
+use Rattle.startup_read.specs.Kept.{KeepsIndex, written_map}
 use Rattle.startup_read.specs.Refreshing.{Refreshes, after_refresh, is_due}
+use Rattle.startup_read.proofs.ClosingLaws.{base_holds}
 use Rattle.startup_read.proofs.OpeningLaws.{sound_wrote}
 use Rattle.startup_read.proofs.UnchangedLaws.{unchanged_itself}
 use Rattle.startup_read.proofs.WritingLaws.{sound_placed}
 use Rattle.cache_store.specs.IndexCalls.{IsFresh}
-use Rattle.cache_store.specs.InUse.{ClosesInUse, HasJournalOf, HasShortJournal, past_header}
+use Rattle.cache_store.specs.InUse.{ClosesInUse, HasJournalOf, HasShortJournal, IsSameIndex}
 use Rattle.memory_index.specs.declared.memory_index.MemoryIndex.{MemoryIndex}
-use Rattle.cache_store.proofs.Records.PastHeader.{SamePast, flagged_past}
+use Rattle.cache_store.proofs.Records.SameIndex.{flagged_same, is_same, same_then}
 use Rattle.cache_store.proofs.Records.SparedIndex.{few_fresh, fresh_not_due, not_due_fresh, not_due_same}
 
 -- ---- the journal and the flag
@@ -59,8 +60,13 @@ module _ (u : State) (bytes : List ℕ) (sound : IsSound u) where
       ∙ wrote_stands (log_begun u) Log Index (End 0 bytes) (λ e. cc) begun_sound
       ∙ (added_puts Log empty_file u sound).others Index (λ e. cc)
 
-  closed_past : SamePast u (closed bytes u)
-  closed_past = ap past_header (settled_same (flag_cleared bytes u) Index) ∙ flagged_past (log_synced bytes u) (be32 0) refl ∙ ap past_header logged_index
+  -- an index that has room for a flag is the same but for it
+  pub closed_same : HoldsPart (standing u Index) 8 4 → IsSameIndex u (closed bytes u)
+  closed_same holds =
+      same_then u (log_synced bytes u) (closed bytes u) (is_same u (log_synced bytes u) logged_index)
+      (same_then (log_synced bytes u) (flag_cleared bytes u) (closed bytes u)
+      (flagged_same (log_synced bytes u) (be32 0) refl (subst (λ f. HoldsPart f 8 4) (sym logged_index) holds))
+      (is_same (flag_cleared bytes u) (closed bytes u) (settled_same (flag_cleared bytes u) Index)))
 
 -- ---- the index before
 
@@ -88,7 +94,7 @@ printed_diff base now changes sorted diff by = record {
   same = λ name. by_name_keeps changes sorted (rising_distinct (names_of changes) diff.rising) by name ∙ diff.same name;
 }
 
-module _ (index : MemoryIndex) (now : ℕ) (s d t : State) (sound : IsSound d) (left : LeavesIndex s d) (closes : ClosesIndex index.map now d t) where
+module _ (index : MemoryIndex) (now : ℕ) (s d t : State) (sound : IsSound d) (left : LeavesIndex s d) (keeps : KeepsIndex s index.map) (closes : ClosesIndex index.map now d t) where
   abbrev u : State
   u = closes.0
 
@@ -117,13 +123,12 @@ module _ (index : MemoryIndex) (now : ℕ) (s d t : State) (sound : IsSound d) (
         few = omega (arith, few, same, count);
       }
 
-  stays_in_use : IsFresh index.map → SamePast s t × HasJournalOf index.map.base index.map.records (standing t)
+  stays_in_use : IsFresh index.map → IsSameIndex s t × HasJournalOf index.map.base index.map.records (standing t)
   stays_in_use fresh =
-      let not_due = fresh_not_due index.map fresh in (
-        ap (λ (v : State). past_header (standing v Index)) closes.1.1.1.1
-            ∙ closed_past u bytes sound_u
-            ∙ ap (λ (v : State). past_header (standing v Index)) (closes.1.0.not_due not_due)
-            ∙ ap past_header (left.stands Index tt),
+      let not_due = fresh_not_due index.map fresh in
+      let unwritten : standing u Index ≡ standing s Index = ap (λ (v : State). standing v Index) (closes.1.0.not_due not_due) ∙ left.stands Index tt in
+      let holds : HoldsPart (standing u Index) 8 4 = subst (λ f. HoldsPart f 8 4) (sym unwritten) (base_holds (standing s Index) true index.map.base (keeps.base fresh.has_base)) in (
+        subst (IsSameIndex s) (sym closes.1.1.1.1) (same_then s u (closed bytes u) (is_same s u unwritten) (closed_same u bytes sound_u holds)),
         record {
           bytes = bytes;
           changes = prints.printed.sorted;
@@ -137,15 +142,15 @@ module _ (index : MemoryIndex) (now : ℕ) (s d t : State) (sound : IsSound d) (
   pub closes_in_use : (index.map.has_base ≡ true → IsKnown index.map) → ClosesInUse index s t
   closes_in_use known = record {
     short = λ ended. short_journal;
-    in_use = λ ended few. let stays = stays_in_use (few_fresh index.map few known) in record { past = stays.0; journal = stays.1 };
+    in_use = λ ended few. let stays = stays_in_use (few_fresh index.map few known) in record { same = stays.0; journal = stays.1 };
   }
 
 -- so it is where the update has ended, and nothing is said before
 pub closed_in_use : (index : MemoryIndex) (now : ℕ) (s d t : State) (ended : Bool) → IsTrue ended ↔ (index.update ≡ []) → IsSound d → LeavesIndex s d
-    → (ended ≡ true → index.map.has_base ≡ true → IsKnown index.map) → (ended ≡ true → ClosesIndex index.map now d t) → ClosesInUse index s t
-closed_in_use index now s d t ended ends sound left known closes = record {
-  short = λ none. (closes_in_use index now s d t sound left (closes (ends.1 none)) (known (ends.1 none))).short none;
-  in_use = λ none. (closes_in_use index now s d t sound left (closes (ends.1 none)) (known (ends.1 none))).in_use none;
+    → KeepsIndex s index.map → (ended ≡ true → index.map.has_base ≡ true → IsKnown index.map) → (ended ≡ true → ClosesIndex index.map now d t) → ClosesInUse index s t
+closed_in_use index now s d t ended ends sound left keeps known closes = record {
+  short = λ none. (closes_in_use index now s d t sound left keeps (closes (ends.1 none)) (known (ends.1 none))).short none;
+  in_use = λ none. (closes_in_use index now s d t sound left keeps (closes (ends.1 none)) (known (ends.1 none))).in_use none;
 }
 
 -- ---- before the update has ended

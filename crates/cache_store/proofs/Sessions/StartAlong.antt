@@ -14,8 +14,9 @@ use Rattle.index_theory.specs.IndexKind.{index_kind}
 use Rattle.index_theory.specs.LogKind.{log_kind}
 use Rattle.index_theory.specs.Start.{decide, start_of}
 use Rattle.index_theory.proofs.StartLaws.{agrees_along}
-use Rattle.cache_store.specs.InUse.{HoldsBase, OpensInUse, past_header}
+use Rattle.cache_store.specs.InUse.{HoldsBase, OpensInUse}
 use Rattle.cache_store.specs.Open.{BeginsOn, IsRest}
+use Rattle.cache_store.proofs.Records.SameIndex.{is_same, same_then}
 
 -- the same entries are listed
 pub listed_along : (s t : State) → ((name : List ℕ) → entries_on t name ≡ entries_on s name) → (names : List Name) → AreEntries t names → AreEntries s names
@@ -30,7 +31,7 @@ module _ (s t : State) (index : (p : Place) → IsOfIndex p → standing t p ≡
       let was = opens (λ build. found (sym start_along ∙ build)) in
       record {
         base = subst (λ (file : Option (List ℕ)). HoldsBase (index_records file) map) (index Index tt) was.base;
-        past = was.past ∙ ap past_header (index Index tt);
+        same = same_then s t u (is_same s t (index Index tt)) was.same;
       }
 
   pub begins_along : (map : Known) → BeginsOn (standing t) map → BeginsOn (standing s) map

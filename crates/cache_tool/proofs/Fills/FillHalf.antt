@@ -3,7 +3,7 @@ use Rattle.std.proofs.Common.{◌≡◌, ◌∙◌, inl, inr, ℕ, List, [], ◌
 use Rattle.cache_base.specs.declared.name.Name.{Name}
 use Rattle.cache_store.specs.DoneFor.{IsDoneFor}
 use Rattle.cache_store.specs.EndsUpdate.{EndsUpdate, IsTotal, update_over}
-use Rattle.cache_store.specs.InUse.{past_header}
+use Rattle.cache_store.specs.InUse.{IsSameIndex}
 use Rattle.cache_store.specs.Open.{KeepsTo, Tells}
 use Rattle.cache_store.specs.Session.{Session}
 use Rattle.cache_replies.specs.declared.verdict.Verdict.{Verdict}
@@ -22,13 +22,11 @@ use Rattle.cache_tool.specs.Fill.{half_of}
 use Rattle.cache_tool.specs.FillProgress.{EvictsHalf, HalfIsEvicted}
 use Rattle.cache_tool.specs.PutProgress.{IsSent, SendsCommand}
 use Rattle.cache_tool.specs.Right.{LeadTo}
-use Rattle.cache_tool.proofs.Dated.{dated_like}
-use Rattle.cache_tool.specs.Dated.{IsDatedIn}
+use Rattle.cache_tool.specs.Dated.{AreDatedBy}
 use Rattle.cache_tool.proofs.DoneLaws.{done_where, some_done}
 use Rattle.cache_tool.proofs.Fills.FillRuns.{ok_then}
 use Rattle.cache_tool.proofs.MarkLeft.{others_keep, stays_mark, then_stays}
-use Rattle.disk_theory.specs.State.{State, standing}
-use Rattle.disk_theory.specs.declared.place.Place.TheVariants.{Index}
+use Rattle.disk_theory.specs.State.{State}
 use Rattle.evictor.specs.Evict.{total_kb, victims}
 use Rattle.index_map.specs.Known.{SameBase}
 use Rattle.index_theory.specs.Scan.{scan}
@@ -53,10 +51,9 @@ module _ (before mid now : Session) (answer : Result Verdict StoreFault) (said :
     ]));
     in_use = λ records told holds over.
         let used = leads.in_use records (so told) (record { has_base = base.has_base ∙ holds.has_base; same = λ name. base.records name ∙ holds.same name }) (tt, tt) in
-        record { base = used.base; past = used.past ∙ ap (λ (s : State). past_header (standing s Index)) looked };
-    unended = λ spared. leads.unended (tt, tt) ∙ ap (λ (s : State). past_header (standing s Index)) looked;
-    dated = subst (λ (s : State). IsDatedIn h.machine (EvictNames names ∷ []) s now.disk) looked
-        (dated_like (update_ended h.machine) h.machine (EvictNames names) mid.disk now.disk refl (ap (λ (g : History). g.machine.moment) (over_is names h)) leads.dated);
+        record { base = used.base; same = subst (λ (s : State). IsSameIndex s now.disk) looked used.same };
+    unended = λ spared. subst (λ (s : State). IsSameIndex s now.disk) looked (leads.unended (tt, tt));
+    dated = subst (λ (s : State). AreDatedBy h.machine (EvictNames names ∷ []) s now.disk) looked leads.dated;
   }
 
   sent_over : (names : List Name) (h : History) (kb : ℕ) → (Tells before h.machine → kb ≡ total_kb (scan h.machine.shelf)) → (Tells before h.machine → Tells mid (update_ended h.machine))

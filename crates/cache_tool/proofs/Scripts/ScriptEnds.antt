@@ -14,7 +14,7 @@ use Rattle.cache_theory.specs.Faulted.{unfaulted}
 use Rattle.cache_theory.specs.History.{History, acked, settled_at}
 use Rattle.cache_theory.specs.Machine.{Machine}
 use Rattle.cache_theory.specs.Step.{step}
-use Rattle.cache_tool.specs.Beginning.{BeginsRun, FailsToBegin}
+use Rattle.cache_tool.specs.Beginning.{BeginsRun, FailsToBegin, ReadsNone}
 use Rattle.cache_tool.specs.Ending.{EndsSession}
 use Rattle.cache_tool.specs.ScriptProgress.{LeavesScript, PerformsScript, one_begun_on}
 use Rattle.cache_tool.specs.Statuses.{IsClosing, status_in}
@@ -43,12 +43,12 @@ abbrev told : World → Option (List ℕ) → World
 told w left = record w { source = record (w.source) { left = left } }
 
 pub runs_not_begun : {T : Type 0} (counts : Counts) (moment : ℕ) (before : World) (t : State) (faults : ℕ) (answer : Result T StoreFault) (f : StoreFault) (ended : Status) → answer ≡ Err f → answer ≢ Err fault.Sink → ended ≡ status_in (Err f)
-    → (ending answer ≡ Ending.OneFailed → Rose before.disk_faults faults) → (ending answer ≡ Ending.OneFailed → LastCallFails counts) → SyncsWithin opening_syncs before.disk_counts counts → FailsToBegin moment before.disk t → RunsScript moment ended before (record before { disk = t; disk_faults = faults; disk_counts = counts })
-runs_not_begun counts moment before t faults answer f ended failed no_sink same rose last syncs fails = go before.source.left
+    → (ending answer ≡ Ending.OneFailed → Rose before.disk_faults faults) → (ending answer ≡ Ending.OneFailed → LastCallFails counts) → ReadsNone before.disk before.disk_counts counts → SyncsWithin opening_syncs before.disk_counts counts → FailsToBegin moment before.disk t → RunsScript moment ended before (record before { disk = t; disk_faults = faults; disk_counts = counts })
+runs_not_begun counts moment before t faults answer f ended failed no_sink same rose last none syncs fails = go before.source.left
   where
     go : (left : Option (List ℕ)) → RunsScript moment ended (told before left) (record (told before left) { disk = t; disk_faults = faults; disk_counts = counts })
     go None = tt
-    go (Some bytes) = λ m cs is found. inr (not_begun (output_of (told before (Some bytes))) t faults answer f ended failed no_sink same rose last syncs fails m is, refl)
+    go (Some bytes) = λ m cs is found. inr (not_begun (output_of (told before (Some bytes))) t faults answer f ended failed no_sink same rose last none syncs fails m is, refl)
 
 -- ---- the session was ended
 

@@ -22,7 +22,7 @@ use Rattle.cache_tool.proofs.DoneLaws.{done_right, done_spoken}
 use Rattle.cache_tool.proofs.EntryLooks.{looks_none, nothing_to_read, reads_none}
 use Rattle.cache_tool.proofs.ForGood.{disk_drops, no_resume, stops_for_good}
 use Rattle.cache_tool.proofs.MarkLeft.{closed_leaves_mark, leaves_mark, none_leaves_mark, one_changes_mark, may_mark}
-use Rattle.cache_tool.proofs.OneCommand.{came_ending, came_open, faulted_prints, not_begun, performed_prints, rose_twice}
+use Rattle.cache_tool.proofs.OneCommand.{came_ending, came_open, faulted_prints, none_read, not_begun, performed_prints, rose_twice}
 use Rattle.cache_tool.proofs.Puts.PutEnds.{put_stops}
 use Rattle.cache_tool.proofs.SessionEnds.{next_done, resumed_done}
 use Rattle.cache_tool.proofs.StayingLaws.{stays_done, stays_for}
@@ -36,7 +36,7 @@ use Rattle.cache_tool.proofs.one.perform_one.Goals as goal
 pub returns-in-Err-clause-answers : goal.returns-in-Err-clause-answers
 returns-in-Err-clause-answers g c = λ tells m is.
     inr (not_begun (output g.K.Sink g.D.Disk c.args.sink.now c.args.disk.now) (g.D.Disk.state c.begin.new.disk) (g.D.Disk.faults c.begin.new.disk) c.begin.result c.in-Err.fault c.status_of_fault.result c.in-Err.is
-    c.begin.ensures.no_sink c.status_of_fault.ensures c.begin.ensures.account.cause.rose (λ failed. c.begin.ensures.account.last failed tells) (c.begin.ensures.account.syncs tells) (c.in-Err.ensures.fails tells) m is)
+    c.begin.ensures.no_sink c.status_of_fault.ensures c.begin.ensures.account.cause.rose (λ failed. c.begin.ensures.account.last failed tells) (λ none. none_read (c.begin.ensures.looks tells none tells)) (c.begin.ensures.account.syncs tells) (c.in-Err.ensures.fails tells) m is)
 
 pub returns-then-faulting-clause-answers : goal.returns-then-faulting-clause-answers
 returns-then-faulting-clause-answers g c = λ tells m is.

@@ -11,7 +11,7 @@ use Rattle.disk_theory.specs.Account.{one_sync}
 use Rattle.cache_tool.proofs.Growing.{takes_none, takes_part}
 use Rattle.cache_tool.proofs.ForGood.{ended_last, only_came}
 use Rattle.cache_tool.proofs.MarkLeft.{closed_leaves_mark, kept_change_mark, leaves_mark}
-use Rattle.cache_tool.proofs.OneCommand.{faulted_prints, not_begun, rose_twice}
+use Rattle.cache_tool.proofs.OneCommand.{faulted_prints, none_read, not_begun, rose_twice}
 use Rattle.cache_tool.proofs.Puts.PutEnds.{Printed, answered, disk_cause, ended_no_sink, never_others, never_sink, not_answered, put_refuses, put_stops, source_came, stops_after}
 use Rattle.cache_tool.proofs.SessionEnds.{resumed_done}
 use Rattle.cache_tool.proofs.StatusLaws.{no_answer}
@@ -21,7 +21,7 @@ use Rattle.cache_tool.proofs.put.put.Goals as goal
 pub returns-in-Err-clause-stores : goal.returns-in-Err-clause-stores
 returns-in-Err-clause-stores g c = λ told some m is. inr (
   not_begun (output g.K.Sink g.D.Disk c.args.sink.now c.args.disk.now) (g.D.Disk.state c.begin.new.disk) (g.D.Disk.faults c.begin.new.disk) c.begin.result c.in-Err.fault c.status_of_fault.result c.in-Err.is
-      c.begin.ensures.no_sink c.status_of_fault.ensures c.begin.ensures.account.cause.rose (λ failed. c.begin.ensures.account.last failed told) (c.begin.ensures.account.syncs told) (c.in-Err.ensures.fails told) m is,
+      c.begin.ensures.no_sink c.status_of_fault.ensures c.begin.ensures.account.cause.rose (λ failed. c.begin.ensures.account.last failed told) (λ none. none_read (c.begin.ensures.looks told none told)) (c.begin.ensures.account.syncs told) (c.in-Err.ensures.fails told) m is,
   refl,
 )
 

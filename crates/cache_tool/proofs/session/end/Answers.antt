@@ -1,5 +1,5 @@
 -- What the store's closing ensures is what the end of a session ensures.
-use Rattle.std.proofs.Common.{◌≡◌, ◌≢◌, ◌∙◌, Err, Result, ap, subst, sym, refl}
+use Rattle.std.proofs.Common.{◌≡◌, ◌≢◌, ◌∙◌, [], Err, Result, ap, subst, sym, refl}
 use Rattle.cache_base.specs.declared.status.Status.{Status}
 use Rattle.cache_base.specs.declared.status.Status.TheVariants as status
 use Rattle.cache_store.specs.Faults.{ending, fault_ending}
@@ -9,14 +9,15 @@ use Rattle.cache_store.specs.declared.fault.StoreFault.{StoreFault}
 use Rattle.cache_store.specs.declared.fault.StoreFault.TheVariants as fault
 use Rattle.cache_store.proofs.Performing.Represented.{represents}
 use Rattle.cache_theory.specs.History.{History}
-use Rattle.cache_tool.specs.Dated.{IsDatedAt}
+use Rattle.cache_tool.specs.Dated.{MayBeWritten}
 use Rattle.cache_tool.specs.Ending.{IsEnded}
 use Rattle.cache_tool.specs.Statuses.{IsClosing, status_in}
-use Rattle.cache_tool.proofs.Dated.{closes_at}
+use Rattle.cache_tool.proofs.Dated.{at_where, closes_at}
 use Rattle.cache_tool.proofs.MarkLeft.{stays_mark, kept_mark}
 use Rattle.cache_tool.proofs.OneCommand.{disk_failed}
 use Rattle.cache_tool.proofs.RightLaws.{open_leaves_honest}
-use Rattle.cache_tool.proofs.StayingLaws.{ends_in_use, ends_short, rest_left}
+use Rattle.cache_tool.proofs.StayingLaws.{ends_in_use, ends_short, ends_untrusted, rest_left}
+use Rattle.index_update.specs.Rest.{name_bytes}
 use Rattle.cache_tool.proofs.session.end.Goals as goal
 use Rattle.cache_tool.proofs.session.end.Goals.{in-Err-Sink, in-Ok}
 
@@ -42,6 +43,7 @@ dropped ended still now h keeps = record {
   journal = λ closing over. absurd (still closing);
   in_use = λ records closing. absurd (still closing);
   unended = λ closing. absurd (still closing);
+  untrusted = λ closing. absurd (still closing);
   dated = λ closing. absurd (still closing);
 }
 
@@ -75,9 +77,11 @@ returns-in-Ok-close-clause-ends g c = λ tells. record {
         journal = λ closing over. ends_short _ _ h keeps closes over;
         in_use = λ records closing right holds ends. ends_in_use _ _ h keeps closes records right holds ends;
         unended = λ closing rest. c.in-Ok-close.ensures.spares (rest_left _ h keeps rest) tells;
+        untrusted = λ closing rest. ends_untrusted _ _ h keeps (c.in-Ok-close.ensures.spares (rest_left _ h keeps rest) tells);
         dated = λ closing.
-            subst (λ n. IsDatedAt n (g.D.Disk.state c.args.disk.now) (g.D.Disk.state c.close.new.disk)) (sym keeps.matches.moment)
-            (closes_at (open_of c.args.store).index (open_of c.args.store).moment _ _ (g.met.D.Disk.sound c.args.disk.now tells) keeps.matches.holds.files (c.in-Ok-close.ensures.whole tells));
+            subst (λ n. MayBeWritten (h.machine.rest ≡ []) n (g.D.Disk.state c.args.disk.now) (g.D.Disk.state c.close.new.disk)) (sym keeps.matches.moment)
+            (at_where (open_of c.args.store).moment _ _ (λ none. keeps.matches.rest ∙ ap name_bytes none)
+            (closes_at (open_of c.args.store).index (open_of c.args.store).moment _ _ (g.met.D.Disk.sound c.args.disk.now tells) keeps.matches.holds.files (c.in-Ok-close.ensures.whole tells)));
       };
   mark = kept_mark _ _ (c.in-Ok-close.ensures.at_clear tells);
 }
@@ -96,6 +100,7 @@ returns-in-Err-clause-ends g c = λ tells. record {
         journal = λ closing over. absurd (still closing);
         in_use = λ records closing. absurd (still closing);
         unended = λ closing. absurd (still closing);
+        untrusted = λ closing. absurd (still closing);
         dated = λ closing. absurd (still closing);
       };
   mark = kept_mark _ _ (c.in-Err.ensures.at_clear tells);

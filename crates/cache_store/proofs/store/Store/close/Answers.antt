@@ -69,7 +69,7 @@ pub returns-clause-journal : goal.returns-clause-journal
 returns-clause-journal g c = λ told.
     let d = c.close_all-closed.new.disk in
     closed_in_use c.args.self.index c.args.self.moment (g.D.Disk.state c.args.disk.now) (g.D.Disk.state d) (g.D.Disk.state c.close_index.new.disk) c.ended.result c.ended.ensures.ended (g.met.D.Disk.sound d told)
-    (c.close_all-closed.ensures.index told).index c.close_index.ensures.known (λ e. c.in_ok-close_index.ensures.closed e told)
+    (c.close_all-closed.ensures.index told).index (c.requires.told told).1.matches.holds.files c.close_index.ensures.known (λ e. c.in_ok-close_index.ensures.closed e told)
 
 pub returns-in_err-close_index-clause-spares : goal.returns-in_err-close_index-clause-spares
 returns-in_err-close_index-clause-spares g c = λ left told.
