@@ -155,11 +155,12 @@ class Scrapy:
 
     def open(self, folder):
         from scrapy.settings import Settings
+        from scrapy.signalmanager import SignalManager
         from scrapy.utils.misc import load_object
         from scrapy.utils.request import RequestFingerprinter
 
         class Crawler:
-            request_fingerprinter = RequestFingerprinter(None)
+            request_fingerprinter, signals = RequestFingerprinter(None), SignalManager()
 
         class Spider:
             name, crawler = "one", Crawler

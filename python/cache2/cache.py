@@ -154,12 +154,17 @@ class Cache:
             return cast(Entry, talk.ask(b"get " + data, entry_parse(talk, data, only_main), LONG))
 
     def send_get(self, key: Key) -> Reply:
-        data = keys_of.encoded(key)
+        return self.send_gets([key])[0]
+
+    def send_gets(self, keys: Sequence[Key], only_main: bool = False) -> List[Reply]:
+        """Asks for several entries at once. The rest of a long body goes to a temporary file when a later one comes."""
+        data = [keys_of.encoded(key) for key in keys]
         with self._lock:
             talk = self._run()
-            reply = Reply(talk, [talk.send(b"get " + data, entry_parse(talk, data, False), owed=LONG)])
+            replies = [Reply(talk, [talk.send(b"get " + key, entry_parse(talk, key, only_main), owed=LONG)])
+                       for key in data]
             talk.push()
-            return reply
+            return replies
 
     def put(self, key: Key, body: Union[Bytes, BinaryIO], elements: Optional[Elements] = None,
             is_pinned: bool = False) -> None:

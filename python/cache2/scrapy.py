@@ -7,7 +7,7 @@ Each spider has a folder of its own in HTTPCACHE_DIR, which one crawl has at a t
 keys that Firefox gives them. CACHE2_FLUSH_EVERY is after how many responses all is synced (100), and CACHE2_WAITING how
 many may be on their way to the disk while the crawl goes on (4); a crawl that is killed may lose those. With
 CACHE2_COUNT_USES each response that is served counts as a use, by which `evict` chooses. HTTPCACHE_EXPIRATION_SECS is
-heeded.
+heeded. The responses to the requests that were scheduled last are read along with one that is served.
 """
 from __future__ import annotations
 
@@ -18,12 +18,14 @@ import time
 from http.client import responses as reasons
 from typing import Any, Dict, List, Optional, Set
 
+from scrapy import signals
 from scrapy.exceptions import IgnoreRequest
 from scrapy.responsetypes import responsetypes
 from scrapy.utils.project import data_path
 from scrapy.utils.request import RequestFingerprinter
 
 from . import http, keys
+from .ahead import Ahead
 from .cache import Cache
 from .errors import Cache2Error, Damaged, NotFound, Refused
 from .pipeline import Pipeline
@@ -65,10 +67,14 @@ class Storage:
             spider.crawler.engine.close_spider(spider, f"cache2: {type(error).__name__}")
             return
         self._pipeline = self._cache.pipeline()
+        self._ahead = Ahead(self._cache, self._stored_key)
         try:
             self._names = self._cache.names(NAMES)
         except Cache2Error as error:
             logger.warning("Each response is asked for, since there is no list of them: %s", error)
+        if self._names:
+            spider.crawler.signals.connect(self._ahead.expect, signals.request_scheduled)
+            spider.crawler.signals.connect(self._ahead.forget, signals.request_dropped)
         logger.debug("Using the cache in %s", path, extra={"spider": spider})
 
     def close_spider(self, spider: Any) -> None:
@@ -92,22 +98,27 @@ class Storage:
         extra = None if is_plain else self._fingerprinter.fingerprint(request).hex()
         return keys.encoded(http.key_for(request.url, extra=extra))
 
+    def _stored_key(self, request: Any) -> Optional[bytes]:
+        """The key of a request, or None where no response is stored under it."""
+        key = self._key(request)
+        is_there = self._names is None or hashlib.sha1(key).digest() in self._names
+        return key if is_there else None
+
     def retrieve_response(self, spider: Any, request: Any) -> Any:
         """The response that is stored, or None."""
         if self._failure:
             raise IgnoreRequest(f"the cache is not open: {self._failure}")
         try:
-            key = self._key(request)
-            if self._names is not None and hashlib.sha1(key).digest() not in self._names:
+            entry = self._ahead.read(request)
+            if entry is None:
                 return None
-            entry = self._cache.get(key, only_main=True)
             line, head = http.head_in(entry)
             if 0 < self._expiration < time.time() - entry.modified:
                 entry.close()
                 return None
             body = entry.read()
             if self._counts_uses:
-                self._pipeline.use(key)
+                self._pipeline.use(entry.key)
         except Cache2Error as error:
             return self._missed(request, error)
         url = entry.elements.get(ADDRESS, b"").decode() or request.url
@@ -118,13 +129,16 @@ class Storage:
         if not isinstance(error, NotFound):
             logger.warning("%s is not served from the cache: %s", request, error)
         if isinstance(error, Damaged):
-            self._pipeline.doom(self._key(request))
+            key = self._key(request)
+            self._ahead.drop(key)
+            self._pipeline.doom(key)
 
     def store_response(self, spider: Any, request: Any, response: Any) -> None:
         if self._failure:
             return
         try:
             key = self._key(request)
+            self._ahead.drop(key)
             head = http.made_head(
                 response.status, [(name, value) for name, values in response.headers.items() for value in values],
                 method=request.method, reason=reasons.get(response.status, ""),

@@ -170,10 +170,11 @@ def test_a_response_is_as_scrapy_makes_it(room):
     from scrapy.http import Headers, Request, Response
     from scrapy.responsetypes import responsetypes
     from scrapy.settings import Settings
+    from scrapy.signalmanager import SignalManager
     from scrapy.utils.request import RequestFingerprinter
 
     class Crawler:
-        request_fingerprinter = RequestFingerprinter(None)
+        request_fingerprinter, signals = RequestFingerprinter(None), SignalManager()
 
     class Spider:
         name, crawler = "one", Crawler
@@ -203,13 +204,14 @@ def test_requests_that_scrapy_tells_apart(room):
     from cache2.scrapy import Storage
     from scrapy.http import HtmlResponse, Request
     from scrapy.settings import Settings
+    from scrapy.signalmanager import SignalManager
     from scrapy.utils.request import RequestFingerprinter
 
     class Own(RequestFingerprinter):
         pass
 
     class Crawler:
-        request_fingerprinter = RequestFingerprinter(None)
+        request_fingerprinter, signals = RequestFingerprinter(None), SignalManager()
 
     class Spider:
         name, crawler = "one", Crawler
@@ -239,4 +241,73 @@ def test_requests_that_scrapy_tells_apart(room):
     storage.open_spider(Spider)
     storage.store_response(Spider, requests[0], HtmlResponse(url, 200, {"X-Long": "x" * 70_000}, b"new"))
     assert storage.retrieve_response(Spider, requests[0]) is None
+    storage.close_spider(Spider)
+
+
+@pytest.mark.filterwarnings("ignore")
+def test_responses_are_asked_for_ahead(room):
+    """The responses to the requests that were scheduled last come with the one that is wanted. Each is the one that is
+    stored then, also where the program was killed meanwhile.
+    """
+    from cache2.scrapy import Storage
+    from scrapy import signals
+    from scrapy.http import HtmlResponse, Request
+    from scrapy.settings import Settings
+    from scrapy.signalmanager import SignalManager
+    from scrapy.utils.request import RequestFingerprinter
+
+    class Crawler:
+        request_fingerprinter, signals = RequestFingerprinter(None), SignalManager()
+
+    class Spider:
+        name, crawler = "one", Crawler
+
+    def body_of(number):
+        return b"%d" % number * (900_000 if number % 7 == 6 else 1)
+
+    def scheduled(count, signal=signals.request_scheduled):
+        made = [Request(f"https://example.com/{number}") for number in range(count)]
+        for request in made:
+            Crawler.signals.send_catch_log(signal, request=request, spider=Spider)
+        return made
+
+    def found(request):
+        response = storage.retrieve_response(Spider, request)
+        return response and response.body
+
+    storage = Storage(Settings({"HTTPCACHE_DIR": room}))
+    storage.open_spider(Spider)
+    requests = scheduled(40)
+    for number, request in enumerate(requests):
+        storage.store_response(Spider, request, HtmlResponse(request.url, 200, {}, body_of(number)))
+    storage.close_spider(Spider)
+    storage.open_spider(Spider)
+    calls = []
+    cache = storage._cache
+    send = cache.send_gets
+    cache.send_gets = lambda keys, **words: calls.append(len(keys)) or send(keys, **words)
+
+    requests = scheduled(40)
+    # One that cannot be stored, and one that was not.
+    for url in ("https://example.com/" + "x" * 70_000, "https://example.com/none"):
+        Crawler.signals.send_catch_log(signals.request_scheduled, request=Request(url), spider=Spider)
+    assert [found(request) for request in reversed(requests)] == [body_of(number) for number in reversed(range(40))]
+    assert calls == [9, 9, 9, 9, 4]
+    # In another order, and some that were dropped.
+    requests = scheduled(40)
+    for request in requests[::2]:
+        Crawler.signals.send_catch_log(signals.request_dropped, request=request, spider=Spider)
+    assert [found(request) for request in requests] == [body_of(number) for number in range(40)]
+
+    requests = scheduled(8)
+    assert found(requests[-1]) == body_of(7)
+    storage.store_response(Spider, requests[3], HtmlResponse(requests[3].url, 200, {}, b"new"))
+    assert found(requests[3]) == b"new"
+    requests = scheduled(8)
+    assert found(requests[-1]) == body_of(7)
+    for one in children_of(os.getpid()):
+        kill(one)
+    # That of 6 is longer than a pipe.
+    assert found(requests[6]) is None
+    assert [found(requests[number]) for number in (6, 5, 2)] == [body_of(number) for number in (6, 5, 2)]
     storage.close_spider(Spider)
