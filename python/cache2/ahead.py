@@ -13,6 +13,9 @@ from .reply import Reply
 EXPECTED = 64
 AT_ONCE = 8
 HELD = 16
+# How many more replies may be dropped than are wanted. After that nothing is asked for ahead: the requests come in
+# another order, or are made anew, as where Scrapy keeps them on the disk.
+DROPPED = 32
 
 
 class Asked(NamedTuple):
@@ -33,6 +36,7 @@ class Ahead:
         # By the identity of the request.
         self._expected: Dict[int, Any] = {}
         self._asked: Dict[int, Asked] = {}
+        self._dropped = 0
 
     def expect(self, request: Any) -> None:
         """The request may come next."""
@@ -54,6 +58,7 @@ class Ahead:
         self.forget(request)
         asked = self._asked.pop(id(request), None)
         if asked:
+            self._dropped = max(0, self._dropped - 1)
             try:
                 return self._entry(asked.reply)
             except ProgramEnded:
@@ -77,7 +82,7 @@ class Ahead:
         """The entry of this key. Those that may be read next are asked for with it."""
         requests: List[Any] = []
         keys = [key]
-        while self._expected and len(keys) <= AT_ONCE:
+        while self._expected and len(keys) <= AT_ONCE and self._dropped < DROPPED:
             request = self._expected.popitem()[1]
             other = self._other_key(request)
             if other is not None:
@@ -90,4 +95,5 @@ class Ahead:
             self._asked[id(asked.request)] = asked
         while len(self._asked) > HELD:
             del self._asked[next(iter(self._asked))]
+            self._dropped += 1
         return self._entry(replies[0])

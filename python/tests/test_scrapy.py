@@ -299,6 +299,14 @@ def test_responses_are_asked_for_ahead(room):
         Crawler.signals.send_catch_log(signals.request_dropped, request=request, spider=Spider)
     assert [found(request) for request in requests] == [body_of(number) for number in range(40)]
 
+    # Where they are made anew, as those that Scrapy keeps on the disk, few are asked for in vain.
+    calls.clear()
+    for _ in range(5):
+        assert [found(Request(request.url)) for request in scheduled(40)] == [body_of(number) for number in range(40)]
+    assert sum(calls) < 80
+
+    storage.close_spider(Spider)
+    storage.open_spider(Spider)
     requests = scheduled(8)
     assert found(requests[-1]) == body_of(7)
     storage.store_response(Spider, requests[3], HtmlResponse(requests[3].url, 200, {}, b"new"))
