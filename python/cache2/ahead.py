@@ -9,12 +9,12 @@ from .errors import Cache2Error, ProgramEnded
 from .reply import Reply
 
 # How many requests are known that may come next, how many of them are asked for with the one that has come, and how
-# many replies are held at the most: each has up to 256 KiB in memory, and what is longer in a temporary file.
+# many replies are held at the most, each with a body of up to 256 KiB.
 EXPECTED = 64
 AT_ONCE = 8
 HELD = 16
-# How many more replies may be dropped than are wanted. After that nothing is asked for ahead: the requests come in
-# another order, or are made anew, as where Scrapy keeps them on the disk.
+# How many more replies may be of no use than are wanted. After that nothing is asked for ahead: the requests come in
+# another order, or are made anew, as where Scrapy keeps them on the disk, or the bodies are long.
 DROPPED = 32
 
 
@@ -58,17 +58,18 @@ class Ahead:
         self.forget(request)
         asked = self._asked.pop(id(request), None)
         if asked:
-            self._dropped = max(0, self._dropped - 1)
-            try:
-                return self._entry(asked.reply)
-            except ProgramEnded:
-                # The next call starts the program anew.
-                return self._cache.get(asked.key, only_main=True)
+            entry = self._came(asked.reply)
+            self._dropped = max(0, self._dropped + (1 if entry is None else -1))
+            return entry or self._cache.get(asked.key, only_main=True)
         key = self._key_of(request)
         return None if key is None else self._ask(key)
 
-    def _entry(self, reply: Reply) -> Entry:
-        found: Entry = reply.result()
+    def _came(self, reply: Reply) -> Optional[Entry]:
+        """The entry that came. None where its body is long, or the program ended, which the next call starts anew."""
+        try:
+            found: Optional[Entry] = reply.result()
+        except ProgramEnded:
+            return None
         return found
 
     def _other_key(self, request: Any) -> Optional[bytes]:
@@ -90,10 +91,11 @@ class Ahead:
                 keys.append(other)
         if not requests:
             return self._cache.get(key, only_main=True)
-        replies = self._cache.send_gets(keys, only_main=True)
+        replies = self._cache.send_ahead(key, keys[1:])
         for asked in map(Asked, requests, keys[1:], replies[1:]):
             self._asked[id(asked.request)] = asked
         while len(self._asked) > HELD:
             del self._asked[next(iter(self._asked))]
             self._dropped += 1
-        return self._entry(replies[0])
+        found: Entry = replies[0].result()
+        return found

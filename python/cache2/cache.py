@@ -154,15 +154,22 @@ class Cache:
             return cast(Entry, talk.ask(b"get " + data, entry_parse(talk, data, only_main), LONG))
 
     def send_get(self, key: Key) -> Reply:
-        return self.send_gets([key])[0]
-
-    def send_gets(self, keys: Sequence[Key], only_main: bool = False) -> List[Reply]:
-        """Asks for several entries at once. The rest of a long body goes to a temporary file when a later one comes."""
-        data = [keys_of.encoded(key) for key in keys]
+        data = keys_of.encoded(key)
         with self._lock:
             talk = self._run()
-            replies = [Reply(talk, [talk.send(b"get " + key, entry_parse(talk, key, only_main), owed=LONG)])
-                       for key in data]
+            reply = Reply(talk, [talk.send(b"get " + data, entry_parse(talk, data, False), owed=LONG)])
+            talk.push()
+            return reply
+
+    def send_ahead(self, key: Key, others: Sequence[Key]) -> List[Reply]:
+        """Asks for an entry without its alternative data, and for those that may be read next. Of these one whose body
+        has over 256 KiB is None, so that no body goes to a temporary file.
+        """
+        data = [keys_of.encoded(one) for one in (key, *others)]
+        with self._lock:
+            talk = self._run()
+            replies = [Reply(talk, [talk.send(b"get " + one, entry_parse(talk, one, True, number > 0), owed=LONG)])
+                       for number, one in enumerate(data)]
             talk.push()
             return replies
 

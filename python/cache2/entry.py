@@ -58,15 +58,20 @@ def alternative_place(found: Mapping[str, bytes], length: int) -> Optional[Tuple
     return int(told[1]), told[2]
 
 
-def entry_parse(talk: Conversation, key: bytes, only_main: bool) -> Parse:
-    """Reads the reply to a `get`. With `only_main` the body has no alternative data."""
-    def parse(replies: Replies) -> Entry:
+def entry_parse(talk: Conversation, key: bytes, only_main: bool, only_short: bool = False) -> Parse:
+    """Reads the reply to a `get`. With `only_main` the body has no alternative data. With `only_short` one of over
+    256 KiB is passed over, and there is no entry then.
+    """
+    def parse(replies: Replies) -> Optional[Entry]:
         count, fetched, modified, frecency, expires, flags, element_bytes, length = parse_numbers(replies, b"found", 8)
         found: Dict[str, bytes] = elements.decoded(replies.block(element_bytes))
         place = alternative_place(found, length) if only_main else None
         wanted = place[0] if place else length
         if length <= CHUNK:
             body: BinaryIO = io.BytesIO(replies.block(length)[:wanted])
+        elif only_short:
+            talk.begin_body(0, length)
+            return None
         else:
             body = cast(BinaryIO, io.BufferedReader(talk.begin_body(wanted, length - wanted), CHUNK))
         return Entry(keys.decoded(key), count, fetched, modified, frecency, flags, found, wanted, body,

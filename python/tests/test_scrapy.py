@@ -4,6 +4,7 @@ import random
 import signal
 import subprocess
 import sys
+import tempfile
 import time
 
 import cache2
@@ -245,10 +246,11 @@ def test_requests_that_scrapy_tells_apart(room):
 
 
 @pytest.mark.filterwarnings("ignore")
-def test_responses_are_asked_for_ahead(room):
+def test_responses_are_asked_for_ahead(room, monkeypatch):
     """The responses to the requests that were scheduled last come with the one that is wanted. Each is the one that is
-    stored then, also where the program was killed meanwhile.
+    stored then, also where the program was killed meanwhile. No body goes to a temporary file.
     """
+    monkeypatch.delattr(tempfile, "TemporaryFile")
     from cache2.scrapy import Storage
     from scrapy import signals
     from scrapy.http import HtmlResponse, Request
@@ -284,8 +286,8 @@ def test_responses_are_asked_for_ahead(room):
     storage.open_spider(Spider)
     calls = []
     cache = storage._cache
-    send = cache.send_gets
-    cache.send_gets = lambda keys, **words: calls.append(len(keys)) or send(keys, **words)
+    send = cache.send_ahead
+    cache.send_ahead = lambda key, others: calls.append(1 + len(others)) or send(key, others)
 
     requests = scheduled(40)
     # One that cannot be stored, and one that was not.
