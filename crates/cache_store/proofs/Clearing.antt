@@ -13,3 +13,4 @@ pub mod NothingDoomed
 pub mod ObjectsDoomed
 pub mod OriginHash
 pub mod StoppedImages
+pub mod StoppedResume

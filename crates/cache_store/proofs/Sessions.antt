@@ -1,5 +1,6 @@
 pub mod BasedIndex
 pub mod BegunIndex
+pub mod BehindOpening
 pub mod Closed
 pub mod ClosedInUse
 pub mod Opened

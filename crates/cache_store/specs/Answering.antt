@@ -1,20 +1,16 @@
 -- How a reply is said.
-use Rattle.std.specs.Prelude.{Err, IfOk, List, Ok, OnErr, Option, Result, [], codes, ℕ, ◌++◌, ◌∷◌, ◌≡◌, ◌≢◌}
-use Rattle.std.specs.Io.KnownBytes.{Appends}
+use Rattle.std.specs.Prelude.{Err, IfOk, List, Ok, OnErr, Option, Result, [], ℕ, ◌≡◌, ◌≢◌}
 use Rattle.cache_replies.specs.Printed.{is_check, lists_findings}
-use Rattle.cache_replies.specs.Said.{IsCut, Said, Saying}
+use Rattle.cache_replies.specs.Said.{Saying}
 use Rattle.cache_replies.specs.declared.answered.Answered.{Answered}
 use Rattle.cache_replies.specs.declared.answered.Answered.TheVariants as answered
-use Rattle.cache_replies.specs.declared.verdict.Verdict.{Verdict}
-use Rattle.cache_replies.specs.declared.verdict.Verdict.TheVariants as outcome
 use Rattle.cache_store.specs.declared.fault.StoreFault.{StoreFault}
 use Rattle.cache_store.specs.declared.fault.StoreFault.TheVariants as fault
 use Rattle.cache_replies.specs.declared.pending.Pending.{Pending}
 use Rattle.cache_theory.specs.Command.{Command, Reply}
-use Rattle.cache_theory.specs.Command.Reply.{Findings, Refused, Resumed}
 use Rattle.cache_theory.specs.Machine.{Machine}
 use Rattle.cache_theory.specs.Step.{step}
-use Rattle.cache_theory.specs.Text.{findings_text, refusal_words, reply_text, line, with_number}
+use Rattle.cache_theory.specs.Text.{reply_text}
 use Rattle.disk_theory.specs.State.{State}
 use Rattle.file_handles.specs.Cache.{Cache, cache_at}
 use Rattle.handle_table.specs.Kept.{Kept}

@@ -1,6 +1,6 @@
 -- How entries are evicted by the records in memory.
 use Rattle.std.specs.List.{AllByRecursion, IsDistinct}
-use Rattle.std.specs.Prelude.{Bool, IsSome, IsTrue, List, None, Result, false, filter, if◌then◌else◌, is_some, true, ℕ, ⊤, ◌≡◌, ◌⊎◌}
+use Rattle.std.specs.Prelude.{Bool, IsSome, IsTrue, List, Result, false, filter, is_some, true, ℕ, ⊤, ◌≡◌, ◌⊎◌}
 use Rattle.cache_base.specs.Names.{has_name}
 use Rattle.cache_base.specs.declared.name.Name.{Name}
 use Rattle.cache_store.specs.Open.{Represents}
@@ -9,7 +9,6 @@ use Rattle.cache_store.specs.Session.{Session}
 use Rattle.cache_theory.specs.Command.{Command}
 use Rattle.cache_theory.specs.Command.Command.{Evict}
 use Rattle.cache_theory.specs.History.{History}
-use Rattle.cache_theory.specs.Laws.{is_among}
 use Rattle.cache_theory.specs.Machine.{Machine, open_names}
 use Rattle.cache_theory.specs.Marks.{is_touched}
 use Rattle.cache_theory.specs.Step.{all_doomed}
@@ -24,10 +23,10 @@ use Rattle.handle_table.specs.Kept.{Kept}
 use Rattle.file_handles.specs.Removing.{LastChangeFails}
 use Rattle.file_handles.specs.Stands.{KeepsWhere, ReachesHistory, RepresentsSome}
 use Rattle.handle_table.specs.Users.{AreOpenNames, users_of}
-use Rattle.index_map.specs.Known.{IsKnown, Known, SameBase}
+use Rattle.index_map.specs.Known.{IsKnown, Known}
 use Rattle.index_record.specs.declared.record.IndexRecord.{IndexRecord}
 use Rattle.index_theory.specs.Ever.{entries_on}
-use Rattle.record_list.specs.Lists.{record_at, same_name}
+use Rattle.record_list.specs.Lists.{same_name}
 use Rattle.memory_index.specs.Forgetting.{AreOthers}
 
 -- these names have to go by the records of the map, so that all take at most so many KB; no name in use is among them

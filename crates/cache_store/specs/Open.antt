@@ -1,5 +1,5 @@
 -- What a store that is open stands for, and what opening and closing it promise.
-use Rattle.std.specs.Prelude.{Bool, List, OnOk, Result, [], false, ℕ, ◌≡◌, ◌≢◌}
+use Rattle.std.specs.Prelude.{Bool, List, OnOk, Result, [], false, ℕ, ◌+◌, ◌≡◌, ◌≢◌, ◌≤◌, ◌⊎◌}
 use Rattle.cache_base.specs.Names.{AreSorted}
 use Rattle.cache_base.specs.declared.name.Name.{Name}
 use Rattle.cache_store.specs.Faults.{ending}
@@ -14,6 +14,7 @@ use Rattle.cache_theory.specs.Machine.{Machine, opened}
 use Rattle.cache_theory.specs.Marks.{marks_of}
 use Rattle.cache_theory.specs.Table.{Table}
 use Rattle.disk_theory.specs.Account.{Ending}
+use Rattle.disk_theory.specs.Calls.{Counts, IsBehindSync, LastFails}
 use Rattle.disk_theory.specs.Image.{Files, IsImage}
 use Rattle.disk_theory.specs.Listing.{AreEntries}
 use Rattle.disk_theory.specs.Sound.{IsQuiet}
@@ -27,9 +28,10 @@ use Rattle.file_handles.specs.Stands.{KeepsTo as CacheKeepsTo, KeepsWhere as Cac
 use Rattle.index_map.specs.Known.{BeginsAfter, Known}
 use Rattle.index_theory.specs.Honest.{Honest, LeavesHonest, index_records, journal_records}
 use Rattle.index_theory.specs.Start.{start_of}
-use Rattle.index_theory.specs.declared.kinds.Start.TheVariants.{Build, Ready}
+use Rattle.index_theory.specs.declared.kinds.Start.{Start}
+use Rattle.index_theory.specs.declared.kinds.Start.TheVariants.{Build, Ready, Update}
 use Rattle.index_update.specs.Rest.{name_bytes}
-use Rattle.startup_read.specs.Opening.{opened as opened_index}
+use Rattle.startup_read.specs.Opening.{calls_behind, opened as opened_index}
 
 -- the store and the disk stand for this machine
 pub record Represents (now : Session) (m : Machine) : Type 0 where
@@ -85,6 +87,26 @@ OpensSafely now s t = (m : Machine) → StartsOn now s m → IsQuiet s → IsSaf
 -- the doomed files are removed first, and then the index is opened, with its sync; nothing else is done
 abbrev pub OpensInOrder : State → State → Type 0
 OpensInOrder s t = (u : State) × (RemovesDoomed s u × (t ≡ opened_index u))
+
+-- how often an opening lists the entries
+abbrev pub listings : Start → ℕ
+listings Ready = 0
+listings Update = 1
+listings Build = 1
+
+-- how many calls of an opening follow its sync: the removal of `index.tmp` and the listing, each where it is due
+abbrev pub opening_behind : State → ℕ
+opening_behind s = calls_behind s + listings (start_of (standing s))
+
+-- no more calls than these follow the sync, and what stands at `clear` is as before
+pub record IsBehindOpening (s t : State) (now : Counts) : Type 0 where
+  pub calls : IsBehindSync (opening_behind s) now
+  pub mark : standing t Clear ≡ standing s Clear
+
+-- How an opening failed: its last call was a change or a sync that failed; or it was a look, and nothing was synced yet,
+-- or the listing failed, after the sync.
+abbrev pub FailsInOpening : State → State → Counts → Counts → Type 0
+FailsInOpening s t before now = LastFails now ⊎ ((now.syncs ≤ before.syncs) ⊎ IsBehindOpening s t now)
 
 -- in each image every key is found as it was
 abbrev pub KeepsFound : State → State → Type 0

@@ -14,7 +14,7 @@ use Rattle.cache_theory.specs.Machine.{Machine}
 use Rattle.cache_theory.specs.Marks.{Marks}
 use Rattle.cache_theory.specs.Step.{step}
 use Rattle.cache_theory.specs.Table.{get}
-use Rattle.context_clear.specs.Mark.{mark_bytes, mark_of}
+use Rattle.context_clear.specs.Mark.{IsMark, mark_bytes, mark_of}
 use Rattle.disk_theory.specs.Image.{Files, IsImage}
 use Rattle.disk_theory.specs.State.{State, standing}
 use Rattle.disk_theory.specs.declared.place.Place.{Place}
@@ -80,6 +80,20 @@ pub data FindsNoneOrAll (origin : ℕ) (s : State) (w : Marks) (m : Machine) : T
       → FindsNoneOrAll origin s w m
   NoneFound : ((key : List ℕ) (v : Version) → found (get m.shelf) key ≡ Some v
       → covers origin v.key v.header ≡ false) → FindsNoneOrAll origin s w m
+
+-- the mark of the origin stands, or no version of it that is not pinned
+abbrev pub IsMarkedOrCleared : ℕ → Files → Type 0
+IsMarkedOrCleared origin image = (image Clear ≡ Some (mark_bytes origin))
+    ⊎ ((key : List ℕ) (v : Version) → found (entries image) key ≡ Some v
+    → covers origin v.key v.header ≡ false)
+
+-- so it is wherever a clearing stops that is resumed, where the records in memory were right
+abbrev pub StoppedResumeKeepsMark : Type 0
+StoppedResumeKeepsMark = (origin : ℕ) (before : Session) (t : State) (m : Machine)
+    → Represents before m → Tells before m → IsMark origin m.mark
+    → ((image : Files) → IsImage before.disk image → image Clear ≡ Some (mark_bytes origin))
+    → ClearsUnderMark origin before t
+    → (image : Files) → IsImage t image → IsMarkedOrCleared origin image
 
 -- a crash leaves no mark of a clearing
 abbrev pub LeavesNoMark : State → Type 0

@@ -2,7 +2,7 @@
 
 ghost use Rattle.cache_store.specs.Clearing.{ClearingLeavesNone};
 ghost use Rattle.cache_store.specs.InUse.{FewAreSpared, FewStayInUse};
-ghost use Rattle.cache_store.specs.StoppedClearing.{ResumedClearingIsNoneOrAll, StoppedClearingIsNoneOrAll};
+ghost use Rattle.cache_store.specs.StoppedClearing.{ResumedClearingIsNoneOrAll, StoppedClearingIsNoneOrAll, StoppedResumeKeepsMark};
 
 /// Where few records differ from those of the index that stands, a `flush` does not write it, and a closing leaves it
 /// as it is with a journal of what differs.
@@ -21,8 +21,10 @@ pub fn clearing_leaves_none()
 /// Wherever a clearing of an origin stops, a crash leaves the mark of the origin, or all entries as before, or none
 /// of the origin that is not pinned, where the records in memory were right. What is meant by as before is what the
 /// marks of the commands before the clearing allow. Where no mark could stand before it, an opening and the clearing
-/// that is resumed there leave the first or the last.
+/// that is resumed there leave the first or the last. And wherever a clearing stops that is resumed, its mark still
+/// stands, or none is left.
 pub fn stopped_clearing_is_none_or_all()
     ensures stopped { StoppedClearingIsNoneOrAll }
     ensures resumed { ResumedClearingIsNoneOrAll }
+    ensures again { StoppedResumeKeepsMark }
 {}

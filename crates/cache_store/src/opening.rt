@@ -1,12 +1,13 @@
 //! Opens the index, and begins its update.
 
-ghost use Rattle.std.specs.Prelude.{◌≡◌, IfOk, IsTrue, OnOk};
+ghost use Rattle.std.specs.Prelude.{◌≡◌, ◌⊎◌, ◌≤◌, ◌+◌, ℕ, IfOk, IsTrue, OnOk};
 ghost use Rattle.cache_base.specs.Names.{AreSorted};
 ghost use Rattle.cache_store.specs.InUse.{OpensInUse};
 ghost use Rattle.cache_store.specs.Kept.{HoldsIndex};
-ghost use Rattle.cache_store.specs.Open.{BeginsOn, IsRest};
+ghost use Rattle.cache_store.specs.Open.{BeginsOn, IsRest, opening_behind};
 ghost use Rattle.memory_index.specs.Records.{SeesNone, TellsOf};
-ghost use Rattle.disk_theory.specs.Account.{LeavesEntriesUnread, Looks, LooksAtNoEntry, ending, one_sync};
+ghost use Rattle.disk_theory.specs.Account.{Ending, LeavesEntriesUnread, Looks, LooksAtNoEntry, ending, one_sync};
+ghost use Rattle.disk_theory.specs.Calls.{IsBehindSync, LastFails};
 ghost use Rattle.disk_theory.specs.Listing.{AreEntries};
 ghost use Rattle.disk_theory.specs.State.{standing};
 ghost use Rattle.disk_theory.specs.Told.{Told};
@@ -38,6 +39,8 @@ fn begin_update<D: Disk>(
         IfOk result (λ index. IsTrue D.tells → SeesNone map → TellsOf es index) }
     ensures looks { Looks D.Disk (ending result) disk.old disk.new }
     ensures no_entry { LooksAtNoEntry D.Disk disk.old disk.new }
+    ensures once { IsTrue D.tells → (most : ℕ) → IsBehindSync most (D.counts disk.old) →
+        IsBehindSync (most + 1) (D.counts disk.new) }
 {
     let mut index = MemoryIndex {
         map,
@@ -67,6 +70,11 @@ pub(crate) fn begin_index<D: Disk>(alloc: Global, disk: &mut D) -> Result<Memory
     ensures entries { Told D.Disk (λ s t. IsApart s → SparesEntries s t) disk.old disk.new }
     ensures honest { Told D.Disk OpensHonest disk.old disk.new }
     ensures disk { LeavesEntriesUnread D.Disk (ending result) one_sync disk.old disk.new }
+    ensures behind { OnOk result (IsTrue D.tells →
+        IsBehindSync (opening_behind (D.state disk.old)) (D.counts disk.new)) }
+    ensures fails { ending result ≡ Ending.OneFailed → IsTrue D.tells →
+        let before = D.counts disk.old in let now = D.counts disk.new in LastFails now
+        ⊎ ((now.syncs ≤ before.syncs) ⊎ IsBehindSync (opening_behind (D.state disk.old)) now) }
 {
     let Opened { start, map } = open_index(alloc, disk)?;
     match start {

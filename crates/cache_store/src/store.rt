@@ -1,7 +1,7 @@
 //! Opens the cache, and closes it.
 
 ghost use Rattle.std.specs.Prelude.{◌≡◌, ◌≢◌, [], IfOk, IsTrue, OnOk, Err};
-ghost use Rattle.disk_theory.specs.Account.{LeavesEntriesUnread, OnlyChanges, one_sync};
+ghost use Rattle.disk_theory.specs.Account.{Ending, LeavesEntriesUnread, OnlyChanges, one_sync};
 ghost use Rattle.disk_theory.specs.Sound.{IsQuiet};
 ghost use Rattle.disk_theory.specs.State.{standing};
 ghost use Rattle.disk_theory.specs.Told.{Told};
@@ -37,7 +37,7 @@ pub struct Store {
 impl Store {
     ghost use Rattle.cache_store.specs.Faults.{ending};
     ghost use Rattle.cache_store.specs.InUse.{ClosesInUse, ClosesWhole, OpensInUse};
-    ghost use Rattle.cache_store.specs.Open.{BeginsOn, Closes, ClosesHonestly, ClosesSafely, HasShelf, IsOpen, KeepsFound, Opens, OpensHonestly, OpensInOrder, OpensSafely};
+    ghost use Rattle.cache_store.specs.Open.{BeginsOn, Closes, ClosesHonestly, ClosesSafely, FailsInOpening, HasShelf, IsBehindOpening, IsOpen, KeepsFound, Opens, OpensHonestly, OpensInOrder, OpensSafely};
     ghost use Rattle.cache_store.specs.Session.{is_faulting, open_of, session};
     ghost use Rattle.cache_store.specs.Syncs.{syncs_of_closing};
 
@@ -66,6 +66,10 @@ impl Store {
         // Calls and faults.
         ensures no_sink { result ≢ Err StoreFault.Sink }
         ensures disk { LeavesEntriesUnread D.Disk (ending result) one_sync disk.old disk.new }
+        ensures behind { OnOk result (IsTrue D.tells →
+            IsBehindOpening (D.state disk.old) (D.state disk.new) (D.counts disk.new)) }
+        ensures fails { ending result ≡ Ending.OneFailed → IsTrue D.tells → FailsInOpening
+            (D.state disk.old) (D.state disk.new) (D.counts disk.old) (D.counts disk.new) }
     {
         let handles = Handles::new(alloc)?;
         let reply = Pending::new(alloc)?;

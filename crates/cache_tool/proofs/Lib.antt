@@ -1,7 +1,9 @@
 pub mod Accounted
 pub mod Answering
+pub mod BeforeCommands
 pub mod Begun
 pub mod ClearedInRun
+pub mod Clearings
 pub mod Dated
 pub mod DoneKept
 pub mod DoneLaws

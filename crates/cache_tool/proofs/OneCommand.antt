@@ -4,7 +4,7 @@ use Rattle.std.specs.Io.KnownBytes.{Appends}
 use Rattle.std.specs.Prelude.{IsOkAnd, MatchResult, OnErr, OnOk}
 use Rattle.std.proofs.KnownBytes.{Appends-nil, Keeps-refl}
 use Rattle.std.proofs.lemmas.List.{take_all}
-use Rattle.cache_base.specs.Causes.{Rose}
+use Rattle.cache_base.specs.Causes.{HasCause, Rose}
 use Rattle.cache_base.specs.declared.status.Status.{Status}
 use Rattle.cache_base.specs.declared.status.Status.TheVariants as status
 use Rattle.cache_replies.specs.Answers.{outcome_of}
@@ -28,7 +28,7 @@ use Rattle.cache_theory.specs.Machine.{Machine}
 use Rattle.cache_theory.specs.Step.{step}
 use Rattle.cache_theory.specs.Text.{IsSpoken, reply_text}
 use Rattle.cache_theory.proofs.Faults.RepliesApart.{step_spoken}
-use Rattle.cache_tool.specs.Beginning.{BeginsRun, FailsToBegin, ReadsNone}
+use Rattle.cache_tool.specs.Beginning.{BeginsRun, FailsBeforeCommands, FailsToBegin, ReadsNone}
 use Rattle.cache_tool.specs.Ending.{EndsSession}
 use Rattle.cache_tool.specs.Right.{LeadTo}
 use Rattle.cache_tool.specs.Syncs.{SyncsWithin, opening_syncs}
@@ -37,6 +37,7 @@ use Rattle.cache_tool.specs.Staying.{StaysOnce}
 use Rattle.cache_tool.specs.Tally.{RoseBy}
 use Rattle.cache_tool.specs.Verbs.{HasNotBegun, LeavesDisk, PrintsFault, PrintsLast, StopsForGood, all_begun_none_acked, none_begun, none_performed}
 use Rattle.cache_tool.specs.World.{Output}
+use Rattle.cache_tool.proofs.Clearings.{closes_after}
 use Rattle.cache_tool.proofs.MarkLeft.{leaves_mark}
 use Rattle.cache_tool.proofs.RightLaws.{leads_begun, leads_none, leads_one, leads_still}
 use Rattle.cache_tool.proofs.SessionEnds.{ends_leave, stops_leave}
@@ -113,22 +114,33 @@ disk_failed fault.Memory ended is disk = absurd (let e : status.Memory ≡ statu
 disk_failed fault.Disk ended is disk = refl
 disk_failed fault.Sink ended is disk = absurd (let e : status.Sink ≡ status.Disk = sym is ∙ disk in cc)
 
+failed_disk : (f : StoreFault) (ended : Status) → ended ≡ status_in (Err f) → fault_ending f ≡ Ending.OneFailed → ended ≡ status.Disk
+failed_disk fault.Memory ended is one = absurd (cc)
+failed_disk fault.Disk ended is one = is
+failed_disk fault.Sink ended is one = absurd (cc)
+
 -- a bound of no looks
 pub none_read : {m n : ℕ} → n ≤ m + meta_looks * 0 → n ≤ m
 none_read few = omega (arith, few)
 
 pub not_begun : {moment : ℕ} {counts : Counts} {T : Type 0} (before : Output) (t : State) (faults : ℕ) (answer : Result T StoreFault) (f : StoreFault) (ended : Status) → answer ≡ Err f → answer ≢ Err fault.Sink → ended ≡ status_in (Err f)
-    → (ending answer ≡ Ending.OneFailed → Rose before.disk_faults faults) → (ending answer ≡ Ending.OneFailed → LastCallFails counts) → ReadsNone before.disk before.disk_counts counts → SyncsWithin opening_syncs before.disk_counts counts → FailsToBegin moment before.disk t
+    → HasCause (ending answer ≡ Ending.OneFailed) before.disk_faults faults → (ending answer ≡ Ending.OneFailed → LastCallFails counts) → (ending answer ≡ Ending.OneFailed → FailsBeforeCommands before.disk t before.disk_counts counts) → ReadsNone before.disk before.disk_counts counts → SyncsWithin opening_syncs before.disk_counts counts → FailsToBegin moment before.disk t
     → (m : Machine) → StartsOn moment before.disk m → HasNotBegun m ended before (record before { disk = t; disk_faults = faults; disk_counts = counts })
-not_begun before t faults answer f ended failed no_sink same rose last none syncs fails m is =
+not_begun before t faults answer f ended failed no_sink same cause last opening none syncs fails m is =
     let stop : IsStop ended = no_sink_stops answer f ended failed no_sink same in
     record {
       failed = stop;
-      rose = λ disk. rose (ap ending failed ∙ disk_failed f ended same disk);
+      cause = record {
+        later = cause.later;
+        rose = λ disk. cause.rose (ap ending failed ∙ disk_failed f ended same disk);
+        kept = λ none. cause.kept (λ one. none (failed_disk f ended same (sym (ap ending failed) ∙ one)));
+      };
       last = λ disk. last (ap ending failed ∙ disk_failed f ended same disk);
+      opening = λ disk. opening (ap ending failed ∙ disk_failed f ended same disk);
       no_entry = none;
       silent = Keeps-refl before.taken;
       mark = leaves_mark [] before.disk t fails.mark;
+      clearing = fails.clearing;
       syncs = syncs;
       leaves = elim (fails.crash m is) [
         | inl safe ↦ inl (stops_leave m (none_begun m) ended before.disk t (stop_closes_not ended stop) safe fails.images)
@@ -151,6 +163,11 @@ came_open (Err f) came now by still = λ none. still (sym (ap (λ r. ending r) b
 pub came_ending : (answer : Result Verdict StoreFault) (came : Result Status StoreFault) → CameBy answer came → ending came ≡ Ending.NoneFailed → ending answer ≡ Ending.NoneFailed
 came_ending (Ok o) came by calm = refl
 came_ending (Err f) came by calm = sym (ap (λ r. ending r) by) ∙ calm
+
+-- it goes on to be closed only where the command had its effect
+pub closes_with : (answer : Result Verdict StoreFault) (came : Result Status StoreFault) → CameBy answer came → IsClosing (status_in came) → HadEffect answer
+closes_with (Ok o) came by closing = tt
+closes_with (Err f) came by closing = closes_after f (subst (λ x. IsClosing (status_in x)) by closing)
 
 came_ok : (o : Verdict) (came : Result Status StoreFault) → IsOkAnd came (λ s. s ≡ status_of o) → status_in came ≡ status_of o
 came_ok o (Ok s) is = is

@@ -1,6 +1,6 @@
 -- How a run begins: the store opened, and a clearing was resumed.
 use Rattle.std.proofs.Common.{◌≡◌, inl, inr, ℕ, List, Option, None, Some, Result, Ok, Err, refl, sym, subst, ap, ◌∙◌}
-use Rattle.std.specs.Prelude.{OnErr}
+use Rattle.std.specs.Prelude.{IfSome, OnErr}
 use Rattle.cache_store.specs.AtClear.{ChangesAtClear}
 use Rattle.cache_store.specs.Clearing.{LeavesResumed}
 use Rattle.cache_store.specs.DoneFor.{IsResumedBy}
@@ -8,8 +8,10 @@ use Rattle.cache_store.specs.InUse.{IsSameIndex, OpensInUse}
 use Rattle.cache_store.specs.Open.{BeginsOn, Opens, OpensHonestly, StartsOn, Tells}
 use Rattle.cache_store.specs.Performing.{GoesBy, PerformsFor}
 use Rattle.cache_store.specs.Session.{Session}
+use Rattle.cache_store.specs.StoppedClearing.{ClearsUnderMark}
 use Rattle.cache_store.specs.declared.fault.StoreFault.{StoreFault}
 use Rattle.cache_replies.specs.declared.verdict.Verdict.{Verdict}
+use Rattle.cache_store.proofs.Clearing.StoppedResume.{stopped_resume_keeps_mark}
 use Rattle.cache_store.proofs.Performing.Represented.{represents}
 use Rattle.cache_store.proofs.Sessions.Opened.{starts_on}
 use Rattle.cache_theory.specs.Command.{Command}
@@ -26,12 +28,15 @@ use Rattle.cache_tool.proofs.MarkLeft.{opened_changes_mark, resumed_changes_mark
 use Rattle.cache_tool.proofs.RightLaws.{leads_one}
 use Rattle.cache_tool.proofs.StayingLaws.{stays_done}
 use Rattle.context_clear.specs.Mark.{mark_of}
+use Rattle.context_clear.proofs.MarkLaws.{mark_read}
+use Rattle.disk_theory.specs.Image.{Files, IsImage}
 use Rattle.disk_theory.specs.Listing.{IsFinite}
 use Rattle.disk_theory.specs.Sound.{IsQuiet}
 use Rattle.disk_theory.specs.State.{State, standing}
 use Rattle.disk_theory.specs.declared.place.Place.TheVariants.{Clear}
 use Rattle.index_record.specs.declared.record.IndexRecord.{IndexRecord}
 use Rattle.index_theory.specs.AtClear.{KeepsClear}
+use Rattle.index_theory.proofs.AtClearLaws.{image_may_be_at_clear, quiet_is_at_clear}
 use Rattle.index_theory.specs.Honest.{LeavesHonest}
 
 -- what is said of a fault is said of its answer
@@ -44,9 +49,21 @@ resumed_acked : (Holds : List IndexRecord → Type 0) (mark : Option ℕ) (h : H
 resumed_acked Holds None h d is = subst (λ c. (begun c h).marks ≡ (acked c h).marks) (sym is) refl
 resumed_acked Holds (Some origin) h d is = subst (λ c. (begun c h).marks ≡ (acked c h).marks) (sym is.1.0) refl
 
+-- with nothing pending, what stood at `clear` stands in each image
+kept_image : (s t : State) → IsQuiet s → KeepsClear s t → (image : Files) → IsImage t image → image Clear ≡ standing s Clear
+kept_image s t quiet kept image of = elim (kept.found (image Clear) (image_may_be_at_clear t image kept.apart of)) [
+  | inl before ↦ quiet_is_at_clear s (image Clear) quiet before
+  | inr new ↦ absurd new
+]
+
 -- the store did not open
 pub never_opened : (moment : ℕ) (s t : State) → OpensHonestly s t → (IsQuiet s → KeepsClear s t) → ((m : Machine) → StartsOn moment s m → IsQuiet s → IsSafe t (marks_of m)) → FailsToBegin moment s t
-never_opened moment s t images kept safe = record { images = images; mark = opened_changes_mark s t kept; crash = λ m is. inl (safe m is) }
+never_opened moment s t images kept safe = record {
+  images = images;
+  mark = opened_changes_mark s t kept;
+  clearing = λ origin marked quiet honest image of. inl (kept_image s t quiet (kept quiet) image of ∙ marked.1);
+  crash = λ m is. inl (safe m is);
+}
 
 module _ (moment : ℕ) (s : State) (first now : Session) (finite : IsFinite s) (opens : Opens moment s first) (begins : BeginsOn (standing s) first.open_store.index.map) (taken later : Option (List ℕ))
     (opened : IsQuiet s → KeepsClear s first.disk) (resumed : ChangesAtClear Resume first.disk now.disk) where
@@ -57,10 +74,17 @@ module _ (moment : ℕ) (s : State) (first now : Session) (finite : IsFinite s) 
       sym (mark_opened moment s first opens m is) ∙ ap (λ (x : Machine). x.mark) is.is_opened
 
   -- the clearing failed
-  pub resume_fails : (answer : Result Verdict StoreFault) → PerformsFor Resume answer first now taken later → LeavesHonest now.disk → FailsToBegin moment s now.disk
-  resume_fails answer performs kept = record {
+  pub resume_fails : (answer : Result Verdict StoreFault) → PerformsFor Resume answer first now taken later → LeavesHonest now.disk
+      → IfSome (mark_of (standing first.disk Clear)) (λ origin. ClearsUnderMark origin first now.disk) → FailsToBegin moment s now.disk
+  resume_fails answer performs kept clears = record {
     images = λ quiet honest. kept;
     mark = resumed_changes_mark s first.disk now.disk stood opened resumed;
+    clearing = λ origin marked quiet honest.
+        let (m, is) = starts_on moment s finite in
+        let there : mark_of (standing first.disk Clear) ≡ Some origin = ap mark_of (stood ∙ marked.1) ∙ (mark_read origin marked.0).1 in
+        stopped_resume_keeps_mark origin first now.disk m (represents (opens.keeps m is)) (opens.tells m is honest) (marked.0, ap (λ (x : Machine). x.mark) is.is_opened ∙ marked.1)
+        (λ image of. kept_image s first.disk quiet (opened quiet) image of ∙ marked.1)
+        (subst (λ o. IfSome o (λ x. ClearsUnderMark x first now.disk)) there clears);
     crash = λ m is.
         let keeps = opens.keeps m is in
         let does = performs.crash (settled_at m) keeps in

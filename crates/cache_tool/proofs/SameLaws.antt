@@ -31,10 +31,10 @@ use Rattle.index_theory.specs.Scan.{scan}
 -- ---- one command
 
 -- the step is the same, and so are the marks where it has begun, and where it is acknowledged
-record IsSame (m : Machine) (c d : Command) : Type 0 where
-  steps : step m d ≡ step m c
-  begins : (w : Marks) → begun m d w ≡ begun m c w
-  ends : (w : Marks) → acked m d w ≡ acked m c w
+pub record IsSame (m : Machine) (c d : Command) : Type 0 where
+  pub steps : step m d ≡ step m c
+  pub begins : (w : Marks) → begun m d w ≡ begun m c w
+  pub ends : (w : Marks) → acked m d w ≡ acked m c w
 
 same_itself : (m : Machine) (c d : Command) → d ≡ c → IsSame m c d
 same_itself m c d is = record { steps = ap (step m) is; begins = λ w. ap (λ x. begun m x w) is; ends = λ w. ap (λ x. acked m x w) is }
@@ -87,7 +87,7 @@ resume_same m d Holds all (Some origin) mark (records, (is, holds)) =
     (resume_names m (ap is_some mark))
 
 -- each command, where the records are right
-done_same : (right : Type 0) → right → (c : Command) (m : Machine) (d : Command) → IsDoneFor right c m d → IsSame m c d
+pub done_same : (right : Type 0) → right → (c : Command) (m : Machine) (d : Command) → IsDoneFor right c m d → IsSame m c d
 done_same right here (Evict kb) m d is =
     same_by m (Evict kb) d (EvictNames (victims (scan m.shelf) (open_names m) kb)) (is.1.0 ∙ ap (λ rs. EvictNames (victims rs (open_names m) kb)) (is.1.1 here)) (evict_same m kb)
 done_same right here (ClearOrigin origin) m d is =

@@ -1,11 +1,11 @@
 -- What each run begins with: the store is opened, and the clearing is done that an earlier run left undone.
-use Rattle.std.specs.Prelude.{List, None, Option, [], ℕ, ◌∷◌, ◌≡◌, ◌≤◌, ◌⊎◌}
+use Rattle.std.specs.Prelude.{List, None, Option, [], ℕ, ◌+◌, ◌∷◌, ◌≡◌, ◌≤◌, ◌⊎◌}
 use Rattle.cache_base.specs.declared.name.Name.{Name}
 use Rattle.cache_store.specs.Clearing.{LeavesResumed}
 use Rattle.cache_store.specs.DoneFor.{AreOfShelf, DoneBy, IsOfShelf, IsResumedBy}
 use Rattle.memory_index.specs.Forgetting.{AreOthers}
 use Rattle.cache_store.specs.InUse.{IsSameIndex, OpensInUse}
-use Rattle.cache_store.specs.Open.{BeginsOn, Opens, OpensHonestly, StartsOn}
+use Rattle.cache_store.specs.Open.{BeginsOn, Opens, OpensHonestly, StartsOn, opening_behind}
 use Rattle.cache_store.specs.Performing.{GoesBy}
 use Rattle.cache_store.specs.Session.{Session}
 use Rattle.cache_theory.specs.Command.{Command}
@@ -15,10 +15,11 @@ use Rattle.cache_theory.specs.History.{acked, settled_at}
 use Rattle.cache_theory.specs.Machine.{Machine}
 use Rattle.cache_theory.specs.Marks.{marks_of}
 use Rattle.cache_theory.specs.Step.{step}
+use Rattle.cache_tool.specs.Clearings.{KeepsClearing}
 use Rattle.cache_tool.specs.MarkLeft.{ChangesMark}
 use Rattle.cache_tool.specs.Right.{LeadTo}
 use Rattle.context_clear.specs.Mark.{mark_of}
-use Rattle.disk_theory.specs.Calls.{Counts}
+use Rattle.disk_theory.specs.Calls.{Counts, IsBehindSync, LastFails}
 use Rattle.disk_theory.specs.Sound.{IsQuiet}
 use Rattle.disk_theory.specs.State.{State, standing}
 use Rattle.disk_theory.specs.declared.place.Place.TheVariants.{Clear, Index, Log}
@@ -91,9 +92,23 @@ pub record BeginsRun (moment : ℕ) (s : State) (now : Session) : Type 0 where
 pub record FailsToBegin (moment : ℕ) (s t : State) : Type 0 where
   pub images : OpensHonestly s t
   pub mark : ChangesMark [] s t
+  pub clearing : KeepsClearing s t
   pub crash : (m : Machine) → StartsOn moment s m
       → (IsQuiet s → IsSafe t (marks_of m))
       ⊎ DoneAtOpening s m (λ d. IsSafe t (acked d (settled_at m)).marks)
+
+-- No command has begun: what stands at `clear` is as at the call, and where nothing does, one sync was made at the most,
+-- and behind it no more calls than an opening makes and the one look of `Resume`.
+pub record IsBeforeCommands (s t : State) (before now : Counts) : Type 0 where
+  pub mark : standing t Clear ≡ standing s Clear
+  pub calls : standing s Clear ≡ None
+      → (now.syncs ≤ before.syncs + 1) × IsBehindSync (opening_behind s + 1) now
+
+-- How the disk failed before any command: its last call was a change or a sync that failed; or it was a look, and nothing
+-- was synced yet, or no command has begun.
+abbrev pub FailsBeforeCommands : State → State → Counts → Counts → Type 0
+FailsBeforeCommands s t before now =
+    LastFails now ⊎ ((now.syncs ≤ before.syncs) ⊎ IsBeforeCommands s t before now)
 
 -- no entry is looked at: no mark of an origin stands, or the index is trusted
 abbrev pub ReadsNoEntry : Option ℕ → Start → Type 0

@@ -2,6 +2,7 @@ pub mod AnyDisk
 pub mod Asked
 pub mod Beginning
 pub mod ByVerb
+pub mod Clearings
 pub mod Dated
 pub mod DoneFor
 pub mod Ending

@@ -1,7 +1,7 @@
 -- How far a script was performed.
 use Rattle.std.specs.Io.KnownBytes.{Appends, Consumes, IsAtEnd}
 use Rattle.std.specs.List.{AllByRecursion}
-use Rattle.std.specs.Prelude.{Bool, Err, IfSome, IsTrue, List, None, Ok, Option, Result, Some, [], drop, length, min, take, suc, ℕ, ◌+◌, ◌++◌, ◌<◌, ◌∷◌, ◌≡◌, ◌≢◌, ◌≤◌, ◌⊎◌}
+use Rattle.std.specs.Prelude.{Bool, Err, IfSome, IsTrue, List, None, Ok, Option, Result, Some, [], drop, length, min, slice_get, take, suc, ℕ, ◌+◌, ◌++◌, ◌<◌, ◌∷◌, ◌≡◌, ◌≢◌, ◌≤◌, ◌⊎◌}
 use Rattle.cache_base.specs.declared.limits.TheConstants.{SCRIPT_MAX}
 use Rattle.cache_base.specs.declared.status.Status.{Status}
 use Rattle.cache_base.specs.declared.status.Status.TheVariants as status
@@ -12,6 +12,7 @@ use Rattle.cache_store.specs.Session.{Session}
 use Rattle.cache_store.specs.declared.fault.StoreFault.{StoreFault}
 use Rattle.cache_store.specs.declared.fault.StoreFault.TheVariants as fault
 use Rattle.cache_theory.specs.Command.{Command}
+use Rattle.cache_theory.specs.Command.Command.{ClearOrigin}
 use Rattle.cache_theory.specs.Crash.{IsSafe}
 use Rattle.cache_theory.specs.Faulted.{AreFaults, fault_line, replies_but, unfaulted}
 use Rattle.cache_theory.specs.History.{History, begun, unanswered}
@@ -19,9 +20,10 @@ use Rattle.cache_theory.specs.Machine.{Machine}
 use Rattle.cache_theory.specs.Marks.{Marks, all_acked, all_begun}
 use Rattle.cache_theory.specs.Step.{after, step}
 use Rattle.cache_theory.specs.Text.{AreSpoken, CommandsIn, IsCommand, ScriptSpells, SpellsFront, reply_text, script_bytes}
+use Rattle.cache_tool.specs.Clearings.{MayHaveCleared}
 use Rattle.cache_tool.specs.DoneFor.{AreDoneFor}
 use Rattle.cache_tool.specs.MarkLeft.{ChangeMark}
-use Rattle.cache_tool.specs.Right.{LeadTo}
+use Rattle.cache_tool.specs.Right.{AreRight, LeadTo}
 use Rattle.cache_tool.specs.Script.{AreTaken, performed}
 use Rattle.cache_tool.specs.Statuses.{IsClosing, status_in}
 use Rattle.cache_tool.specs.Syncs.{SyncsFor}
@@ -112,6 +114,11 @@ pub record SomeCutOff (cs : List Command) (faults : List ℕ) (c : Command) (f :
   pub is_done : DoneForKept before.session h.machine (cs ++ c ∷ []) (done ++ last ∷ []) faults
   pub as_long : length done ≡ length cs
   pub cut_off : IsCutOff done faults last f h before now
+  -- where it is a clearing, and the records were right
+  pub clearing : (origin : List ℕ) → c ≡ ClearOrigin origin
+      → AreRight (unfaulted faults done) before.session h.machine
+      → MayHaveCleared origin (all_answered (unfaulted faults done) h).marks
+      (status_in (Err f)) now.session
 
 -- One command more was to be answered `fault`: a part of that line went out, and all else is as before.
 pub record SomeFaultCut (cs : List Command) (faults : List ℕ) (h : History) (before now : Progress)
@@ -274,6 +281,10 @@ pub record ScriptIsRun (h : History) (bytes : List ℕ) (cs : List Command) (end
       × SendsNextFront h.machine done acked faults before.taken now.taken)
   pub leaves : LeavesScript h.machine
       (one_begun_on h acked with_last ended done) ended before.session now.session
+  -- where the next one is a clearing, and the records were right
+  pub clearing : (origin : List ℕ) → slice_get cs acked ≡ Some (ClearOrigin origin)
+      → AreRight (unfaulted faults (take acked done)) before.session h.machine
+      → MayHaveCleared origin (marks_on h done faults acked acked) ended now.session
   pub mark : ChangeMark (begun_of acked with_last cs) before.session.disk now.session.disk
   pub syncs : SyncsFor (take (acked + 1) cs) before.disk_counts now.disk_counts
 

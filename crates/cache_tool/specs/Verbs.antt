@@ -1,7 +1,7 @@
 -- The result of each verb, for every machine at an opening on what stands.
 use Rattle.std.specs.Io.KnownBytes.{Appends, Keeps}
 use Rattle.std.specs.Prelude.{IfSome, IsSome, List, Option, Some, [], length, min, slice_get, suc, take, ℕ, ◌+◌, ◌++◌, ◌∷◌, ◌≡◌, ◌≢◌, ◌⊎◌}
-use Rattle.cache_base.specs.Causes.{Rose}
+use Rattle.cache_base.specs.Causes.{HasCause, Rose}
 use Rattle.cache_base.specs.declared.status.Status.{Status}
 use Rattle.cache_base.specs.declared.status.Status.TheVariants as status
 use Rattle.cache_replies.specs.Answers.{outcome_of}
@@ -20,7 +20,8 @@ use Rattle.cache_theory.specs.Marks.{Marks, marks_of}
 use Rattle.cache_theory.specs.Session.{BeginsWith, marks_between}
 use Rattle.cache_theory.specs.Step.{after, step}
 use Rattle.cache_theory.specs.Text.{CommandsIn, ScriptSpells, reply_text}
-use Rattle.cache_tool.specs.Beginning.{DoneAtOpening, DoneOnResumed, ReadsNoEntry, ReadsNone}
+use Rattle.cache_tool.specs.Beginning.{DoneAtOpening, DoneOnResumed, FailsBeforeCommands, ReadsNoEntry, ReadsNone}
+use Rattle.cache_tool.specs.Clearings.{KeepsClearing, LeavesNoneOrAll}
 use Rattle.cache_tool.specs.Dated.{IsDatedIn}
 use Rattle.cache_tool.specs.DoneFor.{AreDoneFor}
 use Rattle.cache_tool.specs.MarkLeft.{LeavesMark}
@@ -126,13 +127,18 @@ pub record PrintsText (text : List ℕ) (ended : Status) (before now : Output) :
 -- The run did not begin: the store did not open, or what is done for `Resume` failed. Nothing is printed.
 pub record HasNotBegun (m : Machine) (ended : Status) (before now : Output) : Type 0 where
   pub failed : (ended ≡ status.Disk) ⊎ (ended ≡ status.Memory)
-  pub rose : ended ≡ status.Disk → Rose before.disk_faults now.disk_faults
+  pub cause : HasCause (ended ≡ status.Disk) before.disk_faults now.disk_faults
   -- no call of the disk follows one that failed
   pub last : ended ≡ status.Disk → LastCallFails now.disk_counts
+  -- that one was a change or a sync, or a look of the opening or of what is done for `Resume`
+  pub opening : ended ≡ status.Disk → FailsBeforeCommands
+      before.disk now.disk before.disk_counts now.disk_counts
   -- and none looked at an entry, where no mark of an origin stood or the index is trusted
   pub no_entry : ReadsNone before.disk before.disk_counts now.disk_counts
   pub silent : Keeps before.taken now.taken
   pub mark : LeavesMark [] before.disk now.disk
+  -- a clearing that was stopped before goes on to have its mark, or is done whole
+  pub clearing : KeepsClearing before.disk now.disk
   pub syncs : SyncsWithin opening_syncs before.disk_counts now.disk_counts
   -- no command has begun, or that one alone
   pub leaves : LeavesDisk m (none_begun m) ended before.disk now.disk
@@ -175,12 +181,18 @@ pub record PrintsFault (m : Machine) (d : Command) (ended : Status) (before now 
       → LeavesDisk m (none_performed m d) status.No before.disk now.disk
       ⊎ RoseBy 2 before.disk_faults now.disk_faults
 
+-- a clearing, in an honest directory: a crash leaves nothing of it, or its mark, or all of it
+abbrev pub ClearsWhole : Machine → Command → Command → State → State → Type 0
+ClearsWhole m d c s t = (origin : List ℕ) → c ≡ ClearOrigin origin → Honest (standing s)
+    → LeavesNoneOrAll origin (marks_between m (d ∷ []) 1 1) t
+
 -- words other than `run` and `put`: the command is performed, and its reply is printed; or the line `fault` is, or
 -- the run did not begin
 abbrev pub AnswersCommand : ℕ → Command → Status → Output → Output → Type 0
 AnswersCommand moment c ended before now = (m : Machine) → StartsOn moment before.disk m
     → DoneAtOpening before.disk m (λ d.
-    DoneOnResumed before.disk m d c (λ e. PrintsLast m d (e ∷ []) ended before now)
+    DoneOnResumed before.disk m d c (λ e.
+    PrintsLast m d (e ∷ []) ended before now × ClearsWhole m d c before.disk now.disk)
     ⊎ PrintsFault m d ended before now)
     ⊎ HasNotBegun m ended before now
 
@@ -272,6 +284,11 @@ pub record PrintsReplies (m : Machine) (d : Command) (bytes : List ℕ) (cs : Li
       × SendsNextFront (step m d).next done acked faults before.taken now.taken)
   pub leaves : LeavesDisk m
       (one_begun_after m d acked with_last ended done) ended before.disk now.disk
+  -- where the next command is a clearing, a crash leaves nothing of it, or its mark, or all of it, if the directory was
+  -- honest or all entries were read anew
+  pub clearing : (origin : List ℕ) → slice_get cs acked ≡ Some (ClearOrigin origin)
+      → ComesRight before.disk (unfaulted faults (take acked done))
+      → LeavesNoneOrAll origin (marks_behind m d done faults acked acked) now.disk
   pub mark : LeavesMark (begun_of acked with_last cs) before.disk now.disk
   -- no more syncs are made than an opening, these commands and a closing take
   pub syncs : SyncsWithin (run_syncs (all_syncs (take (acked + 1) cs)))

@@ -11,11 +11,11 @@ ghost use Rattle.cache_replies.specs.Said.{IsCut};
 ghost use Rattle.cache_replies.specs.Saying.{IsPart};
 ghost use Rattle.cache_store.specs.Session.{is_faulting, session};
 ghost use Rattle.cache_theory.specs.Faulted.{fault_line};
-ghost use Rattle.cache_tool.specs.Beginning.{BeginsRun, FailsToBegin, ReadsNoEntry};
+ghost use Rattle.cache_tool.specs.Beginning.{BeginsRun, FailsBeforeCommands, FailsToBegin, ReadsNoEntry};
 ghost use Rattle.cache_tool.specs.Ending.{EndsSession};
 ghost use Rattle.cache_tool.specs.Statuses.{IsAnswer, IsClosing, IsSaid, status_in, status_of as status_of_outcome};
 ghost use Rattle.context_clear.specs.Mark.{mark_of};
-ghost use Rattle.disk_theory.specs.Account.{Accounts, LooksAtNoEntry, SyncsAtMost};
+ghost use Rattle.disk_theory.specs.Account.{Accounts, Ending, LooksAtNoEntry, SyncsAtMost};
 ghost use Rattle.disk_theory.specs.Calls.{LastFails, StopsAtFault};
 ghost use Rattle.disk_theory.specs.Sound.{IsQuiet};
 ghost use Rattle.disk_theory.specs.State.{standing};
@@ -45,6 +45,8 @@ pub(crate) fn begin<D: Disk>(alloc: Global, now: Moment, disk: &mut D) -> Result
     ensures calm { IfOk result (λ store. is_faulting store ≡ false) }
     ensures no_sink { result ≢ Err StoreFault.Sink }
     ensures account { Accounts D.Disk (ending result) opening_syncs disk.old disk.new }
+    ensures before { ending result ≡ Ending.OneFailed → IsTrue D.tells → FailsBeforeCommands
+        (D.state disk.old) (D.state disk.new) (D.counts disk.old) (D.counts disk.new) }
 {
     let mut store = Store::open(alloc, disk, now)?;
     let mut reply = LastReply::new(alloc);

@@ -14,7 +14,14 @@ state_in d = state_of d.table
 
 -- what it has counted of its calls
 abbrev pub counts_in : MemDisk → Counts
-counts_in d = record { calls = d.calls; failed = record { change = d.failed_change; sync = d.failed_sync }; failed_look = d.failed_look; entry_reads = d.entry_reads; syncs = d.syncs }
+counts_in d = record {
+  calls = d.calls;
+  failed = record { change = d.failed_change; sync = d.failed_sync };
+  failed_look = d.failed_look;
+  entry_reads = d.entry_reads;
+  syncs = d.syncs;
+  last_sync = d.last_sync;
+}
 
 -- how many calls failed
 abbrev pub faults_in : MemDisk → ℕ

@@ -29,6 +29,8 @@ pub struct MemDisk {
     failed_look: u64,
     entry_reads: u64,
     syncs: u64,
+    // The number of the last sync, or 0.
+    last_sync: u64,
     faults: u64,
 }
 
@@ -164,6 +166,7 @@ impl MemDisk {
             failed_look: 0,
             entry_reads: 0,
             syncs: 0,
+            last_sync: 0,
             faults: 0,
         }
     }
@@ -226,6 +229,7 @@ impl MemDisk {
         ensures failed_look { self.new.failed_look ≡ self.old.failed_look }
         ensures entry_reads { self.new.entry_reads ≡ self.old.entry_reads }
         ensures syncs { self.new.syncs ≡ self.old.syncs }
+        ensures last_sync { self.new.last_sync ≡ self.old.last_sync }
         ensures cause { HasCause (IsErrOf result DiskFault.Failed) self.old.faults self.new.faults }
     {
         if fails {
@@ -245,6 +249,7 @@ impl MemDisk {
         ensures failed_look { self.new.failed_look ≡ self.old.failed_look }
         ensures entry_reads { self.new.entry_reads ≡ self.old.entry_reads }
         ensures syncs { self.new.syncs ≡ self.old.syncs }
+        ensures last_sync { self.new.last_sync ≡ self.old.last_sync }
         ensures later { self.old.faults ≤ self.new.faults }
         ensures rose { Rose self.old.faults self.new.faults }
     {

@@ -34,6 +34,8 @@ pub record Counts : Type 0 where
   pub entry_reads : ℕ
   -- the syncs so far, those that failed too
   pub syncs : ℕ
+  -- the number of the last one, or 0 where none was made
+  pub last_sync : ℕ
 
 -- the counts after one call more
 abbrev pub counted : Counts → Counts
@@ -41,7 +43,14 @@ counted c = record c { calls = one_more c.calls }
 
 -- no call was made, and none failed
 abbrev pub no_counts : Counts
-no_counts = record { calls = 0; failed = record { change = 0; sync = 0 }; failed_look = 0; entry_reads = 0; syncs = 0 }
+no_counts = record {
+  calls = 0;
+  failed = record { change = 0; sync = 0 };
+  failed_look = 0;
+  entry_reads = 0;
+  syncs = 0;
+  last_sync = 0;
+}
 
 -- the number of the last look that failed, after one more with this answer and number
 abbrev pub last_look : {T : Type 0} → Result T DiskFault → ℕ → ℕ → ℕ
@@ -57,11 +66,19 @@ abbrev pub counted_change : {T : Type 0} → Result T DiskFault → Counts → C
 counted_change (Err Failed) c = record c { calls = one_more c.calls; failed = record (c.failed) { change = one_more c.calls } }
 counted_change _ c = counted c
 
+-- the numbers of the last change and of the last sync that failed, after a sync with this answer and number
+abbrev pub failed_sync : {T : Type 0} → Result T DiskFault → ℕ → LastFailed → LastFailed
+failed_sync (Err Failed) number before = record before { sync = number }
+failed_sync _ number before = before
+
 -- after a sync with this answer
 abbrev pub counted_sync : {T : Type 0} → Result T DiskFault → Counts → Counts
-counted_sync (Err Failed) c =
-    record c { calls = one_more c.calls; failed = record (c.failed) { sync = one_more c.calls }; syncs = one_more c.syncs }
-counted_sync _ c = record c { calls = one_more c.calls; syncs = one_more c.syncs }
+counted_sync answer c = record c {
+  calls = one_more c.calls;
+  failed = failed_sync answer (one_more c.calls) c.failed;
+  syncs = one_more c.syncs;
+  last_sync = one_more c.calls;
+}
 
 -- after a look at a place
 abbrev pub counted_read : {T : Type 0} → Result T DiskFault → Place → Counts → Counts
@@ -79,6 +96,10 @@ LastLookFails c = c.failed_look ≡ c.calls
 -- it failed, whatever it was
 abbrev pub LastCallFails : Counts → Type 0
 LastCallFails c = LastFails c ⊎ LastLookFails c
+
+-- at most so many calls follow the last sync
+abbrev pub IsBehindSync : ℕ → Counts → Type 0
+IsBehindSync most c = c.calls ≤ c.last_sync + most
 
 -- the last call was a change that failed, and nothing else failed since; or a sync, likewise
 abbrev pub FailsLast : LastFailed → Counts → Type 0

@@ -1,7 +1,7 @@
 //! Opens the index.
 
-ghost use Rattle.std.specs.Prelude.{◌≡◌, ℕ, IfOk, IsTrue, List, OnOk, Option, is_some};
-ghost use Rattle.disk_theory.specs.Calls.{if_done};
+ghost use Rattle.std.specs.Prelude.{◌≡◌, ℕ, IfOk, IsTrue, List, OnOk, Option, if◌then◌else◌, is_some};
+ghost use Rattle.disk_theory.specs.Calls.{IsBehindSync, counted_change, if_done};
 ghost use Rattle.disk_theory.specs.State.{standing};
 ghost use Rattle.disk_theory.specs.declared.place.Place.TheVariants.{Index, Log, Tmp};
 ghost use Rattle.index_theory.specs.Apart.{IsApart};
@@ -13,7 +13,7 @@ ghost use Rattle.index_theory.specs.Start.{start_of};
 ghost use Rattle.record_list.specs.Change.{HasNoRemoved};
 ghost use Rattle.record_list.specs.Lists.{HasNames};
 ghost use Rattle.record_list.specs.Stored.{AreClean};
-ghost use Rattle.disk_theory.specs.Account.{LeavesEntriesUnread, Looks, LooksAtNoEntry, ending, no_sync, one_sync};
+ghost use Rattle.disk_theory.specs.Account.{LeavesEntriesUnread, Looks, LooksAtNoEntry, OnlyChanges, ending, no_sync, one_sync};
 ghost use Rattle.startup_read.specs.Kept.{HasBase, KeepsIndex};
 ghost use Rattle.startup_read.specs.Opening as spec;
 ghost use Rattle.startup_read.specs.Spares.{SparesEntries};
@@ -121,7 +121,7 @@ fn read_files<D: Disk>(alloc: Global, disk: &mut D) -> Result<Found, DiskFault>
 fn set_aside<D: Disk>(disk: &mut D, log: bool) -> Result<(), DiskFault>
     requires { IsTrue D.tells → log ≡ is_some (standing (D.state disk.old) Log) }
     ensures state { Told D.Disk (λ s t. t ≡ if_done result (spec.set_aside s) s) disk.old disk.new }
-    ensures disk { LeavesEntriesUnread D.Disk (ending result) no_sync disk.old disk.new }
+    ensures disk { OnlyChanges D.Disk (ending result) no_sync disk.old disk.new }
 {
     if log {
         disk.rename(&Place::Log, &Place::Tmp)
@@ -135,7 +135,7 @@ fn mark_in_use<D: Disk>(disk: &mut D, clean: bool) -> Result<(), DiskFault>
     requires { IsTrue D.tells →
         clean ≡ is_clean_kind (index_kind (standing (D.state disk.old) Index)) }
     ensures state { Told D.Disk (λ s t. t ≡ if_done result (spec.marked s) s) disk.old disk.new }
-    ensures disk { LeavesEntriesUnread D.Disk (ending result) no_sync disk.old disk.new }
+    ensures disk { OnlyChanges D.Disk (ending result) no_sync disk.old disk.new }
 {
     if clean {
         disk.patch(&Place::Index, FLAG_AT as u64, &IN_USE.to_be_bytes())
@@ -148,7 +148,9 @@ fn mark_in_use<D: Disk>(disk: &mut D, clean: bool) -> Result<(), DiskFault>
 fn remove_tmp<D: Disk>(disk: &mut D, tmp: bool) -> Result<(), DiskFault>
     requires { IsTrue D.tells → tmp ≡ is_some (standing (D.state disk.old) Tmp) }
     ensures state { Told D.Disk (λ s t. t ≡ if_done result (spec.cleared s) s) disk.old disk.new }
-    ensures disk { LeavesEntriesUnread D.Disk (ending result) no_sync disk.old disk.new }
+    ensures counts { let before = D.counts disk.old in IsTrue D.tells →
+        D.counts disk.new ≡ (if tmp then counted_change result before else before) }
+    ensures disk { OnlyChanges D.Disk (ending result) no_sync disk.old disk.new }
 {
     if tmp {
         disk.remove(&Place::Tmp)
@@ -162,7 +164,9 @@ fn change<D: Disk>(disk: &mut D, clean: bool, log: bool, tmp: bool) -> Result<()
     requires { IsTrue D.tells → IsSeen (D.state disk.old) clean log tmp }
     ensures opened { OnOk result (Told D.Disk (λ s t. t ≡ spec.opened s) disk.old disk.new) }
     ensures amid { Told D.Disk spec.IsAmidOpening disk.old disk.new }
-    ensures disk { LeavesEntriesUnread D.Disk (ending result) one_sync disk.old disk.new }
+    ensures behind { OnOk result (IsTrue D.tells →
+        IsBehindSync (spec.calls_behind (D.state disk.old)) (D.counts disk.new)) }
+    ensures disk { OnlyChanges D.Disk (ending result) one_sync disk.old disk.new }
 {
     set_aside(disk, log)?;
     mark_in_use(disk, clean)?;
@@ -193,8 +197,11 @@ pub fn open_index<D: Disk>(alloc: Global, disk: &mut D) -> Result<Opened, DiskFa
     ensures unclean { OnOk result (IsTrue D.tells → IsUnclean (D.state disk.new)) }
     ensures apart { OnOk result (IsTrue D.tells → IsApart (D.state disk.new)) }
 
-    // Calls and faults.
+    // Calls and faults. All looks come before the sync, and after it comes at most the removal of `index.tmp`.
     ensures disk { LeavesEntriesUnread D.Disk (ending result) one_sync disk.old disk.new }
+    ensures looks_first { spec.LooksBeforeSync D.Disk (ending result) disk.old disk.new }
+    ensures behind { OnOk result (IsTrue D.tells →
+        IsBehindSync (spec.calls_behind (D.state disk.old)) (D.counts disk.new)) }
 {
     let found = read_files(alloc, disk)?;
     change(disk, found.clean, found.log, found.tmp)?;

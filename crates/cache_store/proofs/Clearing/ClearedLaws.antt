@@ -90,7 +90,7 @@ resumed_finds m key v at = cond_both (is_some (mark_of m.mark)) (cleared_of m (r
 -- ---- a clearing that is stopped
 
 -- what its whole leaves under a name is nothing, or what the machine has there afterwards
-left_under : (s : State) (m next : Machine) (names : List Name) (image : Files) (name : Name) → HasNoneOf s names image → AreLost m next names → entries (standing s) name.0 ≡ get m.shelf name.0
+pub left_under : (s : State) (m next : Machine) (names : List Name) (image : Files) (name : Name) → HasNoneOf s names image → AreLost m next names → entries (standing s) name.0 ≡ get m.shelf name.0
     → (image (Entry name) ≡ None) ⊎ (image (Entry name) ≡ get next.shelf name.0)
 left_under s m next names image name none lost there = elim (cases_Bool (is_among name.0 names)) [
   | inl among ↦ inl (among_all (λ n. image (entry_place n) ≡ None) names name.0 none.gone among)

@@ -1,5 +1,5 @@
 -- Where the records in memory were right, those once the update has ended are the scan.
-use Rattle.std.proofs.Common.{◌≡◌, ℕ, List, [], refl}
+use Rattle.std.proofs.Common.{ℕ, List, [], refl}
 use Rattle.cache_store.specs.Performing.{GoesBy}
 use Rattle.cache_store.proofs.Records.IndexAchieves.{goes_on_telling, session_at}
 use Rattle.cache_theory.specs.Machine.{Machine}

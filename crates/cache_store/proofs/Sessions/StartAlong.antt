@@ -1,5 +1,5 @@
 -- What an opening goes by is the same where the same files stand.
-use Rattle.std.proofs.Common.{◌≡◌, List, Option, ap, subst, sym, ◌∙◌}
+use Rattle.std.proofs.Common.{◌≡◌, ◌+◌, ◌||◌, if◌then◌else◌, List, Option, ap, subst, sym, ◌∙◌}
 use Rattle.std.specs.Prelude.{IsSome, is_some, ℕ}
 use Rattle.cache_base.specs.declared.name.Name.{Name}
 use Rattle.disk_theory.specs.Listing.{AreEntries}
@@ -15,7 +15,7 @@ use Rattle.index_theory.specs.LogKind.{log_kind}
 use Rattle.index_theory.specs.Start.{decide, start_of}
 use Rattle.index_theory.proofs.StartLaws.{agrees_along}
 use Rattle.cache_store.specs.InUse.{HoldsBase, OpensInUse}
-use Rattle.cache_store.specs.Open.{BeginsOn, IsRest}
+use Rattle.cache_store.specs.Open.{BeginsOn, IsRest, listings, opening_behind}
 use Rattle.cache_store.proofs.Records.SameIndex.{is_same, same_then}
 
 -- the same entries are listed
@@ -25,6 +25,9 @@ listed_along s t same names all name = (λ has. subst IsSome (same name.0) ((all
 module _ (s t : State) (index : (p : Place) → IsOfIndex p → standing t p ≡ standing s p) where
   pub start_along : start_of (standing t) ≡ start_of (standing s)
   start_along = λ i. decide (index_kind (index Index tt i)) (log_kind (index Log tt i)) (is_some (index Tmp tt i))
+
+  pub behind_along : opening_behind t ≡ opening_behind s
+  behind_along = λ i. (if is_some (index Tmp tt i) || is_some (index Log tt i) then 1 else 0) + listings (start_along i)
 
   pub in_use_along : (map : Known) (u : State) → OpensInUse t map u → OpensInUse s map u
   in_use_along map u opens found =

@@ -1,6 +1,6 @@
 -- What the verb `run` comes to, by what its commands and the end of the session came to.
 use Rattle.std.proofs.Common.{◌≡◌, ◌≢◌, ◌⊎◌, inl, inr, ⊎_elim, ℕ, suc, ◌+◌, ◌≤◌, List, length, take, Option, None, Some, Result, Err, refl, sym, subst, ◌∙◌}
-use Rattle.cache_base.specs.Causes.{Rose}
+use Rattle.cache_base.specs.Causes.{HasCause, Rose}
 use Rattle.cache_base.specs.declared.status.Status.{Status}
 use Rattle.cache_base.specs.declared.status.Status.TheVariants as status
 use Rattle.cache_store.specs.Faults.{ending}
@@ -14,9 +14,10 @@ use Rattle.cache_theory.specs.Faulted.{unfaulted}
 use Rattle.cache_theory.specs.History.{History, acked, settled_at}
 use Rattle.cache_theory.specs.Machine.{Machine}
 use Rattle.cache_theory.specs.Step.{step}
-use Rattle.cache_tool.specs.Beginning.{BeginsRun, FailsToBegin, ReadsNone}
+use Rattle.cache_tool.specs.Clearings.{LeavesNoneOrAll}
+use Rattle.cache_tool.specs.Beginning.{BeginsRun, FailsBeforeCommands, FailsToBegin, ReadsNone}
 use Rattle.cache_tool.specs.Ending.{EndsSession}
-use Rattle.cache_tool.specs.ScriptProgress.{LeavesScript, PerformsScript, one_begun_on}
+use Rattle.cache_tool.specs.ScriptProgress.{LeavesScript, PerformsScript, marks_on, one_begun_on}
 use Rattle.cache_tool.specs.Statuses.{IsClosing, status_in}
 use Rattle.cache_tool.specs.Verbs.{LeavesDisk, Reach, RunsScript, one_begun_after, begun_of}
 use Rattle.cache_tool.specs.World.{Progress, World, output_of, world_of}
@@ -43,12 +44,12 @@ abbrev told : World → Option (List ℕ) → World
 told w left = record w { source = record (w.source) { left = left } }
 
 pub runs_not_begun : {T : Type 0} (counts : Counts) (moment : ℕ) (before : World) (t : State) (faults : ℕ) (answer : Result T StoreFault) (f : StoreFault) (ended : Status) → answer ≡ Err f → answer ≢ Err fault.Sink → ended ≡ status_in (Err f)
-    → (ending answer ≡ Ending.OneFailed → Rose before.disk_faults faults) → (ending answer ≡ Ending.OneFailed → LastCallFails counts) → ReadsNone before.disk before.disk_counts counts → SyncsWithin opening_syncs before.disk_counts counts → FailsToBegin moment before.disk t → RunsScript moment ended before (record before { disk = t; disk_faults = faults; disk_counts = counts })
-runs_not_begun counts moment before t faults answer f ended failed no_sink same rose last none syncs fails = go before.source.left
+    → HasCause (ending answer ≡ Ending.OneFailed) before.disk_faults faults → (ending answer ≡ Ending.OneFailed → LastCallFails counts) → (ending answer ≡ Ending.OneFailed → FailsBeforeCommands before.disk t before.disk_counts counts) → ReadsNone before.disk before.disk_counts counts → SyncsWithin opening_syncs before.disk_counts counts → FailsToBegin moment before.disk t → RunsScript moment ended before (record before { disk = t; disk_faults = faults; disk_counts = counts })
+runs_not_begun counts moment before t faults answer f ended failed no_sink same cause last opening none syncs fails = go before.source.left
   where
     go : (left : Option (List ℕ)) → RunsScript moment ended (told before left) (record (told before left) { disk = t; disk_faults = faults; disk_counts = counts })
     go None = tt
-    go (Some bytes) = λ m cs is found. inr (not_begun (output_of (told before (Some bytes))) t faults answer f ended failed no_sink same rose last none syncs fails m is, refl)
+    go (Some bytes) = λ m cs is found. inr (not_begun (output_of (told before (Some bytes))) t faults answer f ended failed no_sink same cause last opening none syncs fails m is, refl)
 
 -- ---- the session was ended
 
@@ -146,6 +147,12 @@ runs_ended k0 k1 c0 c1 moment ended came s mid last t begun faults calm finite b
                 | inr (closing, last_call) ↦ inl last_call
               ];
               leaves = ended_leaves s mid.session begins m is r.acked r.with_last r.done last.session t ended (status_in came) r.leaves ends same dropped kept;
+              clearing = λ origin next right.
+                  let cleared = r.clearing origin next (⊎_elim (λ honest. inl (resumed_tells s mid.session begins m is honest)) (λ rebuilt. inr rebuilt) right) in
+                  elim (closes_or_not (status_in came)) [
+                    | inl closing ↦ let (h, (leads, all)) = cleared.closed closing in all t (ends.each h leads).safe
+                    | inr still ↦ subst (λ x. LeavesNoneOrAll origin (marks_on (acked resumed.done (settled_at m)) r.done r.faults r.acked r.acked) x) (sym (dropped still)) cleared.stopped
+                  ];
               mark = closed_leaves_mark (begun_of r.acked r.with_last cs) s mid.session.disk last.session.disk t begins.mark r.mark ends.mark;
               syncs = syncs_run (all_syncs (take (r.acked + 1) cs)) c0 mid.disk_counts last.disk_counts c1 opened r.syncs closed;
             },

@@ -44,6 +44,10 @@ module _ (h : History) (ds more : List Command) (faults : List ℕ) (numbers : A
       ap (λ l. between h l (length (unfaulted faults (take (length ds) (ds ++ more))))) (ap (unfaulted faults) is ∙ (faults_are_in_front h.machine ds xs faults numbers).kept)
       ∙ ap (λ l. between h (kept ++ xs) (length (unfaulted faults l))) (take-append_seam ds more) ∙ between_joined h kept xs
 
+  -- and no more has begun
+  pub acked_on : marks_on h (ds ++ more) faults (length ds) (length ds) ≡ (all_answered (unfaulted faults ds) h).marks
+  acked_on = marks_at (length ds) [] (take-append_seam ds more ∙ sym (append-nil ds))
+
   -- where they are acknowledged, and the marks allow no less
   pub all_within : (b : ℕ) (xs : List Command) → take b (ds ++ more) ≡ ds ++ xs → (s : State) → IsSafe s (all_acked h.machine kept h.marks) → IsSafe s (marks_on h (ds ++ more) faults (length ds) b)
   all_within b xs is s safe = subst (IsSafe s) (sym (marks_at b xs is)) (all_begin_keep s (after h.machine kept) xs (all_acked h.machine kept h.marks) safe)

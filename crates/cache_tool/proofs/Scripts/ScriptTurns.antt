@@ -1,7 +1,7 @@
 -- What is performed of a script, turn by turn.
 use Rattle.std.proofs.Common.{◌≡◌, ◌⊎◌, inl, inr, ⊎_elim, ℕ, suc, ◌+◌, ◌<◌, ◌≤◌, List, [], ◌∷◌, ◌++◌, length, take, Option, None, Some, Result, Ok, Err, IsErrAnd, refl, sym, ap, subst, ◌∙◌, arith, append-nil, length-append}
 use Rattle.std.specs.Io.KnownBytes.{Appends}
-use Rattle.std.specs.Prelude.{Bool, IsTrue, slice_get}
+use Rattle.std.specs.Prelude.{Bool, IfSome, IsTrue, slice_get}
 use Rattle.std.proofs.KnownBytes.{Appends-nil, Appends-trans}
 use Rattle.std.proofs.Math.Seq.{take-append_seam}
 use Rattle.cache_script.specs.Command.{command_of}
@@ -11,6 +11,7 @@ use Rattle.cache_script.specs.declared.reader.Reader.{Reader}
 use Rattle.cache_script.specs.declared.reader.ScriptFault.{ScriptFault}
 use Rattle.cache_base.specs.Causes.{Rose}
 use Rattle.cache_store.specs.AtClear.{ChangesAtClear}
+use Rattle.cache_store.specs.Clearing.{origin_cleared}
 use Rattle.cache_store.specs.DoneFor.{IsDoneFor}
 use Rattle.cache_store.specs.Faulting.{FailsForGood, SendsReplyFront, StaysAs}
 use Rattle.cache_store.specs.Open.{KeepsTo, Tells}
@@ -18,6 +19,7 @@ use Rattle.cache_store.specs.Performing.{ComesToTell, PerformsAndKeeps, Performs
 use Rattle.cache_replies.specs.Said.{IsCut}
 use Rattle.cache_store.specs.Session.{cache_of}
 use Rattle.cache_replies.specs.declared.verdict.Verdict.{Verdict}
+use Rattle.cache_store.specs.StoppedClearing.{ClearsUnderMark}
 use Rattle.cache_store.specs.declared.fault.StoreFault.{StoreFault}
 use Rattle.cache_store.specs.declared.fault.StoreFault.TheVariants as fault
 use Rattle.cache_store.proofs.Performing.Represented.{represents}
@@ -36,12 +38,14 @@ use Rattle.cache_store.specs.Syncs.{most_syncs}
 use Rattle.cache_tool.specs.Right.{LeadTo, has_rebuild}
 use Rattle.cache_tool.specs.ScriptProgress.{AreRead, ArePerformed, DoneForKept, EndsScript, FailsAfter, FailsInLine, FailsInReply, FaultsAfter, HasPerformed, IsCutOff, PerformsAll, PerformsNext, all_answered, ChangeMarkBut}
 use Rattle.cache_tool.specs.Staying.{StaysFor, StaysOnce}
+use Rattle.cache_tool.specs.Statuses.{status_in}
 use Rattle.cache_tool.specs.Tally.{RoseBy}
 use Rattle.cache_tool.specs.Verbs.{SendsNextFront}
 use Rattle.cache_tool.specs.World.{Progress, Sitting, Supply, sitting_of}
 use Rattle.cache_tool.specs.declared.script.ScriptEnd.{ScriptEnd}
 use Rattle.cache_tool.specs.declared.script.ScriptEnd.TheVariants as ended
 use Rattle.cache_tool.proofs.Answering.{AnswersByFault, AnswersByReply, AnswersNext}
+use Rattle.cache_tool.proofs.Clearings.{cleared_by, closes_after}
 use Rattle.cache_tool.proofs.DoneKept.{done_kept_but, done_kept_on}
 use Rattle.cache_tool.proofs.DoneLaws.{done_rebuild, done_right, done_spoken, done_where, script_is_spoken, spoken_parts}
 use Rattle.cache_tool.proofs.FaultedParts.{next_numbers, one_longer, some_next}
@@ -52,6 +56,8 @@ use Rattle.cache_tool.proofs.RightLaws.{leads_none, leads_on, leads_one, leads_s
 use Rattle.cache_tool.proofs.StayingLaws.{stays_done}
 use Rattle.cache_tool.proofs.Scripts.ScriptBytes.{more_length, nothing_read, read_bad, read_front, read_on, read_taken, read_whole}
 use Rattle.disk_theory.specs.Calls.{LastCallFails, LastFails, LastLookFails}
+use Rattle.disk_theory.specs.State.{standing}
+use Rattle.disk_theory.specs.declared.place.Place.TheVariants.{Clear}
 use Rattle.index_map.specs.Known.{SameBase}
 
 -- the machine after some commands and one more
@@ -60,7 +66,7 @@ after_more m [] c = refl
 after_more m (d ∷ cs) c = after_more (step m d).next cs c
 
 -- the next one stands after the first
-next_at : (ds : List Command) (d : Command) (more : List Command) → slice_get (ds ++ d ∷ more) (length ds) ≡ Some d
+pub next_at : (ds : List Command) (d : Command) (more : List Command) → slice_get (ds ++ d ∷ more) (length ds) ≡ Some d
 next_at [] d more = refl
 next_at (e ∷ ds) d more = next_at ds d more
 
@@ -184,8 +190,9 @@ module _ (before : Progress) where
 
     -- it failed
     one_failed : (f : StoreFault) → IsSpoken c → PerformsFor c (Err f) mid.session now.session mid.taken now.taken → StaysFor {T = Verdict} c (Err f) mid.session now.session
-        → (f ≡ fault.Disk → LastCallFails now.disk_counts × FailsForGood now.disk_counts c (cache_of mid.session) mid.taken now.taken) → FailsAfter cs faults c f before now
-    one_failed f spoken next stays good = record {
+        → (f ≡ fault.Disk → LastCallFails now.disk_counts × FailsForGood now.disk_counts c (cache_of mid.session) mid.taken now.taken)
+        → IfSome (origin_cleared c (standing mid.session.disk Clear)) (λ origin. ClearsUnderMark origin mid.session now.session.disk) → FailsAfter cs faults c f before now
+    one_failed f spoken next stays good stopped = record {
       each = λ h keeps.
           let some = performs.each h keeps in
           let stands = some.performed.stands.keeps in
@@ -201,6 +208,9 @@ module _ (before : Progress) where
             as_long = some.is_done.as_many;
             cut_off = broke_off mid now some.done does.0 faults numbers_done h some.performed f (done_spoken (Tells mid.session at) c at does.0 did spoken) does.1.1 stays_once
                 (λ disk. stops_for_good (Tells mid.session at) c at does.0 did now.disk_counts mid.taken now.taken (cache_of mid.session) (represents stands).stands (good disk).0 (good disk).1);
+            clearing = λ origin clears right.
+                cleared_by origin (all_answered (unfaulted faults some.done) h) mid.session now.session stands (some.performed.stands.tells right) does.0 (subst (λ x. IsDoneFor (Tells mid.session at) x at does.0) clears did) (Err f) (status_in (Err f))
+                (subst (λ x. IfSome (origin_cleared x (standing mid.session.disk Clear)) (λ o. ClearsUnderMark o mid.session now.session.disk)) clears stopped) does.1.1.keeps (closes_after f);
           };
     }
 
@@ -270,7 +280,8 @@ pub counts_more : (n a b c : ℕ) → Rose b c → RoseBy n a b → RoseBy (suc 
 counts_more n a b c once rose = omega arith
 
 module _ (tells : Bool) (r q : Reader) (mid now : Progress) (c : Command) (gives : Gives r q mid.source.left now.source.left c) (later : mid.disk_faults ≤ now.disk_faults)
-    (at_clear : IsTrue tells → ChangesAtClear c mid.session.disk now.session.disk) (synced : IsTrue tells → SyncsWithin (most_syncs c) mid.disk_counts now.disk_counts) where
+    (at_clear : IsTrue tells → ChangesAtClear c mid.session.disk now.session.disk)
+    (clearing : IsTrue tells → IfSome (origin_cleared c (standing mid.session.disk Clear)) (λ origin. ClearsUnderMark origin mid.session now.session.disk)) (synced : IsTrue tells → SyncsWithin (most_syncs c) mid.disk_counts now.disk_counts) where
   module _ (before : Progress) (goes : HasPerformed tells r before mid) where
     -- this was read so far
     so_read : AreRead before.source.left now.source.left (goes.commands ++ c ∷ []) (held_in q)
@@ -376,7 +387,7 @@ module _ (tells : Bool) (r q : Reader) (mid now : Progress) (c : Command) (gives
             calm = λ other none. reply.kept (λ e. let is : f ≡ fault.Disk = cc e in other is) ∙ goes.calm none;
             each = λ told.
                 one_failed before mid now goes.commands c goes.faults goes.counts.numbers (goes.performs told) f spoken (reply.performs told) (reply.stays told)
-                (λ disk. (reply.last (ap (λ x. Err x) disk) told, reply.for_good (no_resume c spoken) (ap (λ x. Err x) disk) told));
+                (λ disk. (reply.last (ap (λ x. Err x) disk) told, reply.for_good (no_resume c spoken) (ap (λ x. Err x) disk) told)) (clearing told);
             mark = begun_mark before goes;
           })
       failed before goes (inr line) = inr (record {

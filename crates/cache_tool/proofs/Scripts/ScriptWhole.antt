@@ -1,8 +1,9 @@
 -- What the commands of a script come to, by how they ended.
 use Rattle.std.proofs.Common.{◌≡◌, ◌≢◌, inl, inr, ℕ, suc, ◌+◌, ◌<◌, List, [], ◌∷◌, ◌++◌, length, take, Option, None, Some, Result, Ok, Err, IsErrAnd, refl, sym, ap, subst, ◌∙◌, arith, append_assoc, append-nil, length-append}
 use Rattle.std.specs.Io.KnownBytes.{Appends}
-use Rattle.std.specs.Prelude.{true, Bool}
+use Rattle.std.specs.Prelude.{true, Bool, slice_get}
 use Rattle.std.proofs.KnownBytes.{Appends-nil, Appends-trans}
+use Rattle.std.proofs.Math.Seq.{take-append_seam}
 use Rattle.std.proofs.lemmas.List.{take_all}
 use Rattle.cache_base.specs.declared.status.Status.{Status}
 use Rattle.cache_base.specs.declared.status.Status.TheVariants as status
@@ -11,27 +12,32 @@ use Rattle.cache_replies.specs.Said.{IsCut}
 use Rattle.cache_store.specs.declared.fault.StoreFault.{StoreFault}
 use Rattle.cache_store.specs.declared.fault.StoreFault.TheVariants as fault
 use Rattle.cache_theory.specs.Command.{Command}
-use Rattle.cache_theory.specs.Faulted.{AreFaults, replies_but, with_next}
+use Rattle.cache_theory.specs.Command.Command.{ClearOrigin}
+use Rattle.cache_theory.specs.Faulted.{AreFaults, replies_but, unfaulted, with_next}
 use Rattle.cache_theory.specs.History.{History}
 use Rattle.cache_theory.specs.Text.{AreSpoken, CommandsIn, ScriptSpells, SpellsFront, command_bytes, command_data, command_words, script_bytes, spaced}
 use Rattle.cache_theory.proofs.Faults.FaultedOn.{faults_are_within}
+use Rattle.cache_tool.specs.Clearings.{MayHaveCleared}
 use Rattle.cache_tool.specs.MarkLeft.{ChangeMark}
 use Rattle.cache_tool.specs.Syncs.{SyncsFor}
 use Rattle.cache_tool.proofs.SyncLaws.{syncs_front}
+use Rattle.cache_tool.specs.Right.{AreRight}
 use Rattle.cache_tool.specs.Script.{AreTaken, bad_line, performed}
-use Rattle.cache_tool.specs.ScriptProgress.{AreCounted, DoneForKept, FailsInLine, FailsMidway, LeavesScript, PerformsScript, PerformsToEnd, ScriptIsRun, SomeCutOff, SomeFaultCut, SomePerformed, TellsOfFaults, one_begun_on, ChangeMarkBut}
+use Rattle.cache_tool.specs.ScriptProgress.{AreCounted, DoneForKept, FailsInLine, FailsMidway, LeavesScript, PerformsScript, PerformsToEnd, ScriptIsRun, SomeCutOff, SomeFaultCut, SomePerformed, TellsOfFaults, all_answered, marks_on, one_begun_on, ChangeMarkBut}
 use Rattle.cache_tool.specs.Statuses.{status_in}
 use Rattle.cache_tool.specs.Tally.{RoseBy}
 use Rattle.cache_tool.specs.Verbs.{begun_of}
 use Rattle.cache_tool.specs.World.{Progress}
 use Rattle.cache_tool.specs.declared.script.ScriptEnd.TheVariants as ended
+use Rattle.cache_tool.proofs.Clearings.{not_cleared}
 use Rattle.cache_tool.proofs.DoneKept.{done_kept_but, done_kept_rest}
 use Rattle.cache_tool.proofs.DoneLaws.{script_is_spoken}
 use Rattle.cache_tool.proofs.FaultedParts.{next_numbers, some_next}
 use Rattle.cache_tool.proofs.MarkLeft.{begun_but_next, begun_front, begun_next, none_change_mark}
 use Rattle.cache_tool.proofs.Moments.{with_left, with_taken}
 use Rattle.cache_tool.proofs.RightLaws.{leads_none}
-use Rattle.cache_tool.proofs.Scripts.ScriptMarks.{keeps_cut, keeps_fault_cut, keeps_front}
+use Rattle.cache_tool.proofs.Scripts.ScriptMarks.{acked_on, keeps_cut, keeps_fault_cut, keeps_front}
+use Rattle.cache_tool.proofs.Scripts.ScriptTurns.{next_at}
 use Rattle.cache_tool.proofs.Scripts.ScriptReplies.{tells_cut, tells_fault_cut, tells_front, tells_line}
 
 -- ---- the commands that were read are the first of all that there are
@@ -89,6 +95,12 @@ none_more fault.Memory n = refl
 none_more fault.Disk n = refl
 none_more fault.Sink n = omega arith
 
+-- the next command of those that were read
+next_is : (read rest : List Command) (c : Command) (n : ℕ) → n ≡ length read → (e : Command) → slice_get ((read ++ c ∷ []) ++ rest) n ≡ Some e → c ≡ e
+next_is read rest c n same e next =
+    let is : Some c ≡ Some e = sym (next_at read c rest) ∙ ap (λ l. slice_get l (length read)) (sym (append_assoc read (c ∷ []) rest)) ∙ ap (λ k. slice_get ((read ++ c ∷ []) ++ rest) k) (sym same) ∙ next in
+    cc
+
 -- ---- for a history
 
 module _ (bytes : List ℕ) (h : History) (start : Progress) where
@@ -113,6 +125,9 @@ module _ (bytes : List ℕ) (h : History) (start : Progress) where
         is_done = others.1.0;
         tells = tells_front h.machine bytes before now read rest some.done others.0 faults came (others.1.0.spoken (subst AreSpoken e spoken)) some.is_done.as_many others.1.1 numbers some.performed.out all unnamed taken;
         leaves = keeps_front h some.done others.0 faults came before.session now.session numbers some.performed.stands (same (length some.done) (length (some.done ++ others.0)));
+        clearing = λ origin next right.
+            subst (λ w. MayHaveCleared origin w came now.session) (sym (acked_on h some.done others.0 faults numbers))
+            (not_cleared origin (all_answered (unfaulted faults some.done) h) came now.session some.performed.stands.keeps);
         mark = begun_front read rest faults counts.numbers (length some.done) some.is_done.as_many before.session.disk now.session.disk mark;
         syncs = syncs_front read rest (length some.done + 1) before.disk_counts now.disk_counts (omega (arith, some.is_done.as_many)) syncs;
       })
@@ -139,6 +154,9 @@ module _ (bytes : List ℕ) (h : History) (start : Progress) where
         leaves =
             subst (λ l. LeavesScript h.machine (one_begun_on h (length ds) faults came l) came before.session mid.session) (append-nil ds)
             (keeps_front h ds [] faults came before.session mid.session numbers some.performed.stands (ap (λ l. performed came (length ds) (length l)) (append-nil ds) ∙ same (length ds)));
+        clearing = λ origin next right.
+            subst (λ w. MayHaveCleared origin w came mid.session) (sym (acked_on h ds [] faults numbers) ∙ ap (λ l. marks_on h l faults (length ds) (length ds)) (append-nil ds))
+            (not_cleared origin (all_answered (unfaulted faults ds) h) came mid.session some.performed.stands.keeps);
         mark =
             subst (λ l. ChangeMark (begun_of (length ds) faults l) before.session.disk mid.session.disk) (append-nil read)
             (begun_front read [] faults counts.numbers (length ds) some.is_done.as_many before.session.disk mid.session.disk mark);
@@ -174,6 +192,10 @@ module _ (bytes : List ℕ) (h : History) (start : Progress) where
           tells = tells_cut h.machine bytes before now all ds others.0 d faults (status_in (Err f)) (subst AreSpoken (append_assoc ds (d ∷ []) others.0) (others.1.0.spoken (subst AreSpoken e spoken))) numbers some.cut_off.cut (not_done f) (not_script f) (not_source f);
           for_good = λ is. some.cut_off.for_good others.0 (is_disk f is);
           leaves = keeps_cut h ds others.0 d faults numbers f before.session now.session some.cut_off.safe some.cut_off.effect;
+          clearing = λ origin next right.
+              subst (λ w. MayHaveCleared origin w (status_in (Err f)) now.session) (sym (acked_on h ds (d ∷ others.0) faults numbers))
+              (some.clearing origin (next_is read rest c (length ds) some.as_long (ClearOrigin origin) next)
+              (subst (λ l. AreRight (unfaulted faults l) before.session h.machine) (take-append_seam ds (d ∷ others.0)) right));
           mark = begun_next read rest faults counts.numbers (length ds) some.as_long before.session.disk now.session.disk c mark;
           syncs = syncs_front (read ++ c ∷ []) rest (length ds + 1) before.disk_counts now.disk_counts (omega (arith, some.as_long, length-append read (c ∷ []))) syncs;
         })
@@ -202,6 +224,9 @@ module _ (bytes : List ℕ) (h : History) (start : Progress) where
           tells = tells_fault_cut h.machine bytes before now all ds others.0 c faults (status_in (Err f)) (subst AreSpoken (append_assoc ds (c ∷ []) others.0) (others.1.0.spoken (subst AreSpoken e spoken))) numbers some.cut (not_done f) (not_script f) (not_source f);
           for_good = λ is. absurd (line.no_disk (is_disk f is));
           leaves = keeps_fault_cut h ds others.0 c faults numbers f before.session now.session some.stands;
+          clearing = λ origin next right.
+              subst (λ w. MayHaveCleared origin w (status_in (Err f)) now.session) (sym (acked_on h ds (c ∷ others.0) faults numbers))
+              (not_cleared origin (all_answered (unfaulted faults ds) h) (status_in (Err f)) now.session some.stands.keeps);
           mark = begun_but_next read rest faults counts.numbers (length ds) some.is_done.as_many before.session.disk now.session.disk c mark;
           syncs = syncs_front (read ++ c ∷ []) rest (length ds + 1) before.disk_counts now.disk_counts (omega (arith, some.is_done.as_many, length-append read (c ∷ []))) syncs;
         })

@@ -175,7 +175,7 @@ module _ (key body : List ℕ) (ended : Status) (w x y z : World) (r : PutThenGe
   got : IsAnswer ended → Got
   got answered = elim (r.got.performs r.opens_get r.got.opened) [
     | inl first ↦ elim first.1.1 [
-      | inl one ↦ was_got first.0 one.0 (resumed_itself _ (mark_of r.opens_get.mark) r.opens_get first.0 unmarked_there first.1.0) one.1.0 one.1.1 answered
+      | inl one ↦ was_got first.0 one.0 (resumed_itself _ (mark_of r.opens_get.mark) r.opens_get first.0 unmarked_there first.1.0) one.1.0 one.1.1.0 answered
       | inr faulted ↦ absurd (unanswered ended faulted.failed answered)
     ]
     | inr failed ↦ absurd (unanswered ended failed.failed answered)

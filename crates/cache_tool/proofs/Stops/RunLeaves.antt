@@ -81,7 +81,7 @@ run_leaves (Asked.Put moment key) m ended before now called source =
 run_leaves (Asked.One moment c) m ended before now called source =
     elim (called.performs m called.opened) [
       | inl ran ↦ elim ran.1.1 [
-        | inl one ↦ (all_begun_none_acked m ran.0 (one.0 ∷ []), one.1.1.leaves)
+        | inl one ↦ (all_begun_none_acked m ran.0 (one.0 ∷ []), one.1.1.0.leaves)
         | inr faulted ↦ (none_performed m ran.0, faulted.leaves)
       ]
       | inr failed ↦ unbegun_leaves m ended before now failed
@@ -149,7 +149,7 @@ module _ (moment : ℕ) (c : Command) (m : Machine) (ended : Status) (before now
   one_was_done : WasDone
   one_was_done = elim (ran.call.performs m ran.call.opened) [
     | inl first ↦ elim first.1.1 [
-      | inl one ↦ was_done first.0 one.0 first.1.0 one.1.0 one.1.1.leaves
+      | inl one ↦ was_done first.0 one.0 first.1.0 one.1.0 one.1.1.0.leaves
       | inr faulted ↦ absurd (unclosed ended faulted.failed closing)
     ]
     | inr failed ↦ absurd (unclosed ended failed.failed closing)

@@ -39,7 +39,9 @@ impl Disk for MemDisk {
         ensures done { OnOk result (¬ (FailsNext self.old)) }
     {
         self.syncs = self.syncs.saturating_add(1);
-        if self.begin() {
+        let fails = self.begin();
+        self.last_sync = self.calls;
+        if fails {
             self.fail_sync();
             return Err(DiskFault::Failed);
         }

@@ -1,8 +1,11 @@
-use Rattle.std.proofs.Common.{◌∙◌, sym, IsTrue}
+use Rattle.std.proofs.Common.{◌∙◌, ap, arith, inr, sym, IsTrue}
 use Rattle.disk_theory.specs.State.{standing}
 use Rattle.index_theory.specs.Start.{start_of}
 use Rattle.startup_read.proofs.KeptLaws.{unready_sees_none}
+use Rattle.startup_read.proofs.OpeningSteps.{on_ok}
 use Rattle.cache_store.proofs.Sessions.BasedIndex.{begins_on, begun_based, begun_on, opens_based}
+use Rattle.cache_store.specs.Open.{listings}
+use Rattle.cache_store.proofs.Sessions.BehindOpening.{behind_start}
 use Rattle.cache_store.proofs.Sessions.BegunIndex.{begun_holds, begun_rest, begun_tells, build_unready, ready_rest, same_opens_honest, update_unready}
 use Rattle.cache_store.proofs.Sessions.OpenedIndex.{opened_entries}
 use Rattle.cache_store.proofs.opening.begin_index.Goals as goal
@@ -92,3 +95,30 @@ returns-in-Build-clause-begins g c =
     let files = standing (g.D.Disk.state c.args.disk.now) in
     begun_on c.begin_update-in-Build.result (IsTrue g.D.Disk.tells) files c.in_ok-start.field-0.map
     (λ told. build_unready c.in_ok-start.field-0.start (start_of files) c.in-Build.is (c.in_ok-start.ensures.start told)) c.in_ok-start.ensures.map c.begin_update-in-Build.ensures.base
+
+-- ---- the calls behind the sync
+
+pub returns-in-Ready-clause-behind : goal.returns-in-Ready-clause-behind
+returns-in-Ready-clause-behind g c = λ told.
+    let few = c.in_ok-start.ensures.behind told in
+    behind_start (g.D.Disk.state c.args.disk.now) c.in_ok-start.field-0.start 0 (g.D.Disk.counts c.open_index.new.disk) (c.in_ok-start.ensures.start told) (ap listings c.in-Ready.is) (omega (arith, few))
+
+pub returns-in-Update-clause-behind : goal.returns-in-Update-clause-behind
+returns-in-Update-clause-behind g c = on_ok c.begin_update.result (λ told.
+    behind_start (g.D.Disk.state c.args.disk.now) c.in_ok-start.field-0.start 1 (g.D.Disk.counts c.begin_update.new.disk) (c.in_ok-start.ensures.start told) (ap listings c.in-Update.is)
+    (c.begin_update.ensures.once told _ (c.in_ok-start.ensures.behind told)))
+
+pub returns-in-Update-clause-fails : goal.returns-in-Update-clause-fails
+returns-in-Update-clause-fails g c = λ failed told. inr (inr (
+    behind_start (g.D.Disk.state c.args.disk.now) c.in_ok-start.field-0.start 1 (g.D.Disk.counts c.begin_update.new.disk) (c.in_ok-start.ensures.start told) (ap listings c.in-Update.is)
+    (c.begin_update.ensures.once told _ (c.in_ok-start.ensures.behind told))))
+
+pub returns-in-Build-clause-behind : goal.returns-in-Build-clause-behind
+returns-in-Build-clause-behind g c = on_ok c.begin_update-in-Build.result (λ told.
+    behind_start (g.D.Disk.state c.args.disk.now) c.in_ok-start.field-0.start 1 (g.D.Disk.counts c.begin_update-in-Build.new.disk) (c.in_ok-start.ensures.start told) (ap listings c.in-Build.is)
+    (c.begin_update-in-Build.ensures.once told _ (c.in_ok-start.ensures.behind told)))
+
+pub returns-in-Build-clause-fails : goal.returns-in-Build-clause-fails
+returns-in-Build-clause-fails g c = λ failed told. inr (inr (
+    behind_start (g.D.Disk.state c.args.disk.now) c.in_ok-start.field-0.start 1 (g.D.Disk.counts c.begin_update-in-Build.new.disk) (c.in_ok-start.ensures.start told) (ap listings c.in-Build.is)
+    (c.begin_update-in-Build.ensures.once told _ (c.in_ok-start.ensures.behind told))))

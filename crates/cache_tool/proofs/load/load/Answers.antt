@@ -20,7 +20,7 @@ returns-in-Err-clause-loads g c = λ told.
     loads_told c.args.now c.status_of_fault.result (world g.S.Source g.K.Sink g.D.Disk c.args.source.now c.args.sink.now c.args.disk.now)
     (world g.S.Source g.K.Sink g.D.Disk c.args.source.now c.args.sink.now c.begin.new.disk) (λ bytes from m is. inr (
       not_begun (output g.K.Sink g.D.Disk c.args.sink.now c.args.disk.now) (g.D.Disk.state c.begin.new.disk) (g.D.Disk.faults c.begin.new.disk) c.begin.result c.in-Err.fault c.status_of_fault.result c.in-Err.is
-          c.begin.ensures.no_sink c.status_of_fault.ensures c.begin.ensures.account.cause.rose (λ failed. c.begin.ensures.account.last failed told) (λ none. none_read (c.begin.ensures.looks told none told)) (c.begin.ensures.account.syncs told) (c.in-Err.ensures.fails told) m is,
+          c.begin.ensures.no_sink c.status_of_fault.ensures c.begin.ensures.account.cause (λ failed. c.begin.ensures.account.last failed told) (λ failed. c.begin.ensures.before failed told) (λ none. none_read (c.begin.ensures.looks told none told)) (c.begin.ensures.account.syncs told) (c.in-Err.ensures.fails told) m is,
       refl,
     ))
 

@@ -1,30 +1,37 @@
 -- What the command came to, where the run began and where it did not.
-use Rattle.std.proofs.Common.{◌≡◌, ◌⊎◌, ◌∙◌, ap, arith, inl, inr, refl, subst, sym, [], ◌∷◌}
+use Rattle.std.proofs.Common.{◌≡◌, ◌⊎◌, ◌∙◌, IfSome, ap, arith, inl, inr, refl, subst, sym, [], ◌∷◌}
 use Rattle.std.specs.Io.KnownBytes.{Appends}
 use Rattle.cache_base.specs.Causes.{Rose}
 use Rattle.cache_script.specs.Command.{command_of}
+use Rattle.cache_store.specs.Clearing.{origin_cleared}
+use Rattle.cache_store.specs.DoneFor.{IsDoneFor}
 use Rattle.cache_store.specs.Faulting.{FailsForGood}
 use Rattle.cache_store.specs.Faults.{ending}
 use Rattle.cache_store.specs.IndexCalls.{ReadsEntriesOf}
 use Rattle.cache_store.specs.Open.{Tells}
 use Rattle.cache_replies.specs.Saying.{IsPart}
 use Rattle.cache_store.specs.Session.{cache_of, open_of, session}
+use Rattle.cache_store.specs.StoppedClearing.{ClearsUnderMark}
 use Rattle.cache_store.proofs.Performing.Represented.{represents}
 use Rattle.cache_theory.specs.Faulted.{fault_line}
 use Rattle.cache_theory.specs.History.{acked, settled_at}
 use Rattle.cache_theory.specs.Step.{step}
+use Rattle.cache_tool.specs.Clearings.{LeavesNoneOrAll}
+use Rattle.cache_tool.specs.Statuses.{status_in}
 use Rattle.cache_tool.specs.World.{output}
 use Rattle.cache_tool.proofs.SyncLaws.{syncs_run}
 use Rattle.cache_store.proofs.SyncLaws.{of_most}
 use Rattle.cache_store.specs.Syncs.{all_syncs}
+use Rattle.cache_tool.proofs.Clearings.{cleared_by, with_told}
 use Rattle.cache_tool.proofs.Dated.{dated_by}
 use Rattle.cache_tool.proofs.DoneLaws.{done_right, done_spoken}
 use Rattle.cache_tool.proofs.EntryLooks.{looks_none, nothing_to_read, reads_none}
 use Rattle.cache_tool.proofs.ForGood.{disk_drops, no_resume, stops_for_good}
 use Rattle.cache_tool.proofs.MarkLeft.{closed_leaves_mark, leaves_mark, none_leaves_mark, one_changes_mark, may_mark}
-use Rattle.cache_tool.proofs.OneCommand.{came_ending, came_open, faulted_prints, none_read, not_begun, performed_prints, rose_twice}
+use Rattle.cache_tool.proofs.OneCommand.{came_ending, closes_with, came_open, faulted_prints, none_read, not_begun, performed_prints, rose_twice}
 use Rattle.cache_tool.proofs.Puts.PutEnds.{put_stops}
-use Rattle.cache_tool.proofs.SessionEnds.{next_done, resumed_done}
+use Rattle.cache_tool.proofs.SessionEnds.{next_done, resumed_done, resumed_tells}
+use Rattle.cache_tool.proofs.StatusLaws.{closes_or_not}
 use Rattle.cache_tool.proofs.StayingLaws.{stays_done, stays_for}
 use Rattle.context_clear.specs.Mark.{mark_of}
 use Rattle.disk_theory.specs.Calls.{LastCallFails}
@@ -36,7 +43,7 @@ use Rattle.cache_tool.proofs.one.perform_one.Goals as goal
 pub returns-in-Err-clause-answers : goal.returns-in-Err-clause-answers
 returns-in-Err-clause-answers g c = λ tells m is.
     inr (not_begun (output g.K.Sink g.D.Disk c.args.sink.now c.args.disk.now) (g.D.Disk.state c.begin.new.disk) (g.D.Disk.faults c.begin.new.disk) c.begin.result c.in-Err.fault c.status_of_fault.result c.in-Err.is
-    c.begin.ensures.no_sink c.status_of_fault.ensures c.begin.ensures.account.cause.rose (λ failed. c.begin.ensures.account.last failed tells) (λ none. none_read (c.begin.ensures.looks tells none tells)) (c.begin.ensures.account.syncs tells) (c.in-Err.ensures.fails tells) m is)
+    c.begin.ensures.no_sink c.status_of_fault.ensures c.begin.ensures.account.cause (λ failed. c.begin.ensures.account.last failed tells) (λ failed. c.begin.ensures.before failed tells) (λ none. none_read (c.begin.ensures.looks tells none tells)) (c.begin.ensures.account.syncs tells) (c.in-Err.ensures.fails tells) m is)
 
 pub returns-then-faulting-clause-answers : goal.returns-then-faulting-clause-answers
 returns-then-faulting-clause-answers g c = λ tells m is.
@@ -85,17 +92,28 @@ returns-clause-answers g c = λ tells m is.
           does.0,
           (
             next_done s mid begins m is finite command does.0 does.1.0,
-            performed_prints (output g.K.Sink g.D.Disk c.args.sink.now c.args.disk.now) (output g.K.Sink g.D.Disk c.attempt-answered.new.sink c.end.new.disk) mid last begins m is c.end.result
-                does.0 (c.end.ensures.ends tells) c.attempt-answered.result c.map.result (done_spoken (Tells mid next) command next does.0 done c.requires.spoken) does.1.1.performs does.1.1.keeps
-                (λ had. stays_done (Tells mid next) command mid next last does.0 done (stays next (represents resumed.leads.keeps) had)) (c.attempt-answered.ensures.always.honest tells) c.map.ensures.cases c.end.ensures.same
-                (λ not. let kept = c.end.ensures.dropped not in (kept.0, ap (λ d. g.D.Disk.state d) kept.1))
-                (λ closing disk. c.end.ensures.last closing disk tells)
-                (λ failed.
-                let kept = c.end.ensures.dropped (disk_drops c.attempt-answered.result c.map.result c.map.ensures.cases failed) in
-                stops_for_good (Tells mid next) command next does.0 done (g.D.Disk.counts c.end.new.disk) (g.K.Sink.taken c.args.sink.now) (g.K.Sink.taken c.attempt-answered.new.sink) (cache_of mid) (represents resumed.leads.keeps).stands
-                (subst (λ d. LastCallFails (g.D.Disk.counts d)) (sym kept.1) (c.attempt-answered.ensures.does.calls.account.last (ap ending failed) tells))
-                (subst (λ d. FailsForGood (g.D.Disk.counts d) command (cache_of mid) (g.K.Sink.taken c.args.sink.now) (g.K.Sink.taken c.attempt-answered.new.sink)) (sym kept.1)
-                (c.attempt-answered.ensures.fails (sym c.faulting.ensures ∙ c.if-faulting.false) (no_resume command c.requires.spoken) failed tells))),
+            (
+              performed_prints (output g.K.Sink g.D.Disk c.args.sink.now c.args.disk.now) (output g.K.Sink g.D.Disk c.attempt-answered.new.sink c.end.new.disk) mid last begins m is c.end.result
+                  does.0 (c.end.ensures.ends tells) c.attempt-answered.result c.map.result (done_spoken (Tells mid next) command next does.0 done c.requires.spoken) does.1.1.performs does.1.1.keeps
+                  (λ had. stays_done (Tells mid next) command mid next last does.0 done (stays next (represents resumed.leads.keeps) had)) (c.attempt-answered.ensures.always.honest tells) c.map.ensures.cases c.end.ensures.same
+                  (λ not. let kept = c.end.ensures.dropped not in (kept.0, ap (λ d. g.D.Disk.state d) kept.1))
+                  (λ closing disk. c.end.ensures.last closing disk tells)
+                  (λ failed.
+                  let kept = c.end.ensures.dropped (disk_drops c.attempt-answered.result c.map.result c.map.ensures.cases failed) in
+                  stops_for_good (Tells mid next) command next does.0 done (g.D.Disk.counts c.end.new.disk) (g.K.Sink.taken c.args.sink.now) (g.K.Sink.taken c.attempt-answered.new.sink) (cache_of mid) (represents resumed.leads.keeps).stands
+                  (subst (λ d. LastCallFails (g.D.Disk.counts d)) (sym kept.1) (c.attempt-answered.ensures.does.calls.account.last (ap ending failed) tells))
+                  (subst (λ d. FailsForGood (g.D.Disk.counts d) command (cache_of mid) (g.K.Sink.taken c.args.sink.now) (g.K.Sink.taken c.attempt-answered.new.sink)) (sym kept.1)
+                  (c.attempt-answered.ensures.fails (sym c.faulting.ensures ∙ c.if-faulting.false) (no_resume command c.requires.spoken) failed tells))),
+              λ origin clears honest.
+                  let at = acked resumed.done (settled_at m) in
+                  let cleared = cleared_by origin at mid last resumed.leads.keeps (resumed_tells s mid begins m is honest) does.0 (subst (λ x. IsDoneFor (Tells mid next) x next does.0) clears done) c.attempt-answered.result (status_in c.map.result)
+                  (subst (λ x. IfSome (origin_cleared x (standing (g.D.Disk.state c.begin.new.disk) Clear)) (λ o. ClearsUnderMark o mid (g.D.Disk.state c.attempt-answered.new.disk))) clears (with_told (origin_cleared command (standing (g.D.Disk.state c.begin.new.disk) Clear)) _ tells c.attempt-answered.ensures.always.stopped))
+                  does.1.1.keeps (closes_with c.attempt-answered.result c.map.result c.map.ensures.cases) in
+                  elim (closes_or_not (status_in c.map.result)) [
+                    | inl closing ↦ let (h, (leads, all)) = cleared.closed closing in all (g.D.Disk.state c.end.new.disk) ((c.end.ensures.ends tells).each h leads).safe
+                    | inr still ↦ subst (λ x. LeavesNoneOrAll origin at.marks x) (sym (ap (λ d. g.D.Disk.state d) (c.end.ensures.dropped still).1)) cleared.stopped
+                  ],
+            ),
           ),
         ),
       ),

@@ -1,18 +1,23 @@
 use Rattle.std.proofs.Common.{Err, Ok, ap, arith, refl}
 use Rattle.cache_script.specs.Command.{command_of}
 use Rattle.cache_store.specs.Outcomes.{verdict_of}
+use Rattle.cache_store.specs.Clearing.{origin_cleared}
 use Rattle.cache_store.proofs.SyncLaws.{of_most}
 use Rattle.cache_store.specs.Session.{open_of, session}
+use Rattle.cache_store.specs.StoppedClearing.{ClearsUnderMark}
 use Rattle.cache_replies.specs.declared.verdict.Verdict.{Verdict}
 use Rattle.cache_tool.specs.Tally.{tally}
 use Rattle.cache_tool.specs.World.{progress, supply}
 use Rattle.cache_tool.proofs.Accounted.{answer_accounted, command_accounted}
 use Rattle.cache_tool.proofs.Answering.{answer_later, answer_rose, answer_stops, answer_went_on, answers_next}
+use Rattle.cache_tool.proofs.Clearings.{with_told}
 use Rattle.cache_tool.proofs.Dated.{dated_by}
 use Rattle.cache_tool.proofs.Handed.{handed_open}
 use Rattle.cache_tool.proofs.RightLaws.{open_leaves_honest}
 use Rattle.cache_tool.proofs.Scripts.ScriptTurns.{gives_none, gives_one, turn_bad, turn_err, turn_failed, turn_on, turn_whole}
 use Rattle.cache_tool.proofs.StayingLaws.{stays_for}
+use Rattle.disk_theory.specs.State.{standing}
+use Rattle.disk_theory.specs.declared.place.Place.TheVariants.{Clear}
 use Rattle.cache_tool.proofs.script.perform_next.Goals as goal
 
 pub returns-in_err-command-in-Ok-Some-clause-performs : goal.returns-in_err-command-in-Ok-Some-clause-performs
@@ -25,7 +30,7 @@ returns-in_err-command-in-Ok-Some-clause-performs g c =
     (λ calm told. stays_for {T = Verdict} (command_of c.in-Ok-Some.command) (Err c.in_err-command-in-Ok-Some.field-0.0) (session g.D.Disk c.args.store.now c.args.disk.now) (session g.D.Disk c.command.new.self c.command.new.disk)
     (λ spares. (command.does calm).files.index spares told) (command.does calm).files.base
     (λ had. dated_by g.D.Disk (command_of c.in-Ok-Some.command) (Err c.in_err-command-in-Ok-Some.field-0.0) c.args.store.now c.command.new.self c.args.disk.now c.command.new.disk (command.does calm).files had told (g.met.D.Disk.sound c.args.disk.now told))) command.fails in
-    turn_err g.D.Disk.tells c.args.reader.now c.next_command.follows.lender-at-none _ _ (command_of c.in-Ok-Some.command) gives answers.0 command.always.at_clear
+    turn_err g.D.Disk.tells c.args.reader.now c.next_command.follows.lender-at-none _ _ (command_of c.in-Ok-Some.command) gives answers.0 command.always.at_clear (λ told. with_told (origin_cleared (command_of c.in-Ok-Some.command) (standing (g.D.Disk.state c.args.disk.now) Clear)) (λ origin. ClearsUnderMark origin (session g.D.Disk c.args.store.now c.args.disk.now) (g.D.Disk.state c.command.new.disk)) told command.always.stopped)
     (λ told. let made = command.always.syncs told in let most = of_most (open_of c.args.store.now).handles (command_of c.in-Ok-Some.command) in omega (arith, made, most)) c.in_err-command-in-Ok-Some.field-0.0
     c.from_residual.result c.from_residual.ensures.1 answers
 
@@ -40,7 +45,7 @@ returns-in_ok-command-in-Ok-Some-clause-performs g c =
     (λ calm told. stays_for {T = Verdict} (command_of c.in-Ok-Some.command) (Ok v) (session g.D.Disk c.args.store.now c.args.disk.now) (session g.D.Disk c.command.new.self c.command.new.disk)
     (λ spares. (command.does calm).files.index spares told) (command.does calm).files.base
     (λ had. dated_by g.D.Disk (command_of c.in-Ok-Some.command) (Ok v) c.args.store.now c.command.new.self c.args.disk.now c.command.new.disk (command.does calm).files had told (g.met.D.Disk.sound c.args.disk.now told))) command.fails in
-    turn_on g.D.Disk.tells c.args.reader.now c.next_command.follows.lender-at-none _ _ (command_of c.in-Ok-Some.command) gives answers.0 command.always.at_clear
+    turn_on g.D.Disk.tells c.args.reader.now c.next_command.follows.lender-at-none _ _ (command_of c.in-Ok-Some.command) gives answers.0 command.always.at_clear (λ told. with_told (origin_cleared (command_of c.in-Ok-Some.command) (standing (g.D.Disk.state c.args.disk.now) Clear)) (λ origin. ClearsUnderMark origin (session g.D.Disk c.args.store.now c.args.disk.now) (g.D.Disk.state c.command.new.disk)) told command.always.stopped)
     (λ told. let made = command.always.syncs told in let most = of_most (open_of c.args.store.now).handles (command_of c.in-Ok-Some.command) in omega (arith, made, most)) v answers
 
 pub returns-in-Ok-None-clause-performs : goal.returns-in-Ok-None-clause-performs

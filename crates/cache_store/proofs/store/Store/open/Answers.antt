@@ -1,5 +1,6 @@
-use Rattle.std.proofs.Common.{false, refl, arith}
+use Rattle.std.proofs.Common.{false, inl, inr, refl, arith}
 use Rattle.cache_store.specs.Session.{open_of}
+use Rattle.cache_store.proofs.Sessions.BehindOpening.{behind_opening, disk_failed, fails_in_opening}
 use Rattle.cache_store.proofs.Sessions.Opened.{begun_honest, begun_safe, cleared_honest, cleared_safe, keeps_found, nothing_removed, opened_safe, opens, opens_open}
 use Rattle.cache_store.proofs.Sessions.StartAlong.{begins_along, in_use_along}
 use Rattle.file_handles.proofs.IndexLeft.{cleared_left}
@@ -112,3 +113,22 @@ returns-in_err-index-clause-at_clear g c = λ told quiet. opened_keeps (g.D.Disk
 
 pub returns-clause-at_clear : goal.returns-clause-at_clear
 returns-clause-at_clear g c = λ told quiet. opened_keeps (g.D.Disk.state c.args.disk.now) (g.D.Disk.state c.clear.new.disk) (g.D.Disk.state c.begin_index.new.disk) (cleared_left (g.D.Disk.state c.args.disk.now) (g.D.Disk.state c.clear.new.disk) (c.clear.ensures.removes told)) (quiet_is_apart (g.D.Disk.state c.args.disk.now) quiet (g.met.D.Disk.sound c.args.disk.now told)) (c.begin_index.ensures.entries told) (quiet_is_clear_apart (g.D.Disk.state c.args.disk.now) quiet (g.met.D.Disk.sound c.args.disk.now told))
+
+-- ---- the calls behind the sync
+
+pub returns-clause-behind : goal.returns-clause-behind
+returns-clause-behind g c = λ told.
+    behind_opening (g.D.Disk.state c.args.disk.now) (g.D.Disk.state c.clear.new.disk) (g.D.Disk.state c.begin_index.new.disk) (g.D.Disk.counts c.begin_index.new.disk) (g.met.D.Disk.sound c.clear.new.disk told)
+    (c.clear.ensures.removes told) (c.in_ok-clear.ensures.cleared told) (c.begin_index.ensures.amid told) (c.in_ok-index.ensures.behind told)
+
+pub returns-in_err-index-clause-fails : goal.returns-in_err-index-clause-fails
+returns-in_err-index-clause-fails g c = λ failed told.
+    let none = c.in_ok-clear.ensures.disk.account.syncs told in
+    fails_in_opening (g.D.Disk.state c.args.disk.now) (g.D.Disk.state c.clear.new.disk) (g.D.Disk.state c.begin_index.new.disk) (g.D.Disk.counts c.args.disk.now) (g.D.Disk.counts c.clear.new.disk) (g.D.Disk.counts c.begin_index.new.disk) (g.met.D.Disk.sound c.clear.new.disk told)
+    (c.clear.ensures.removes told) (c.in_ok-clear.ensures.cleared told) (c.begin_index.ensures.amid told) (omega (arith, none))
+    (c.in_err-index.ensures.fails (disk_failed c.in_err-index.field-0.0 c.from_residual-in_err-index.result c.from_residual-in_err-index.ensures.1 failed) told)
+
+pub returns-in_err-clear-clause-fails : goal.returns-in_err-clear-clause-fails
+returns-in_err-clear-clause-fails g c = λ failed told.
+    let none = c.clear.ensures.disk.account.syncs told in
+    inr (inl (omega (arith, none)))
