@@ -1,5 +1,5 @@
 -- What a stop leaves of a clearing that was performed, and of one that was not.
-use Rattle.std.proofs.Common.{◌≡◌, ◌∙◌, ℕ, List, Option, None, Some, Result, Ok, Err, IfSome, ap, refl, subst, sym}
+use Rattle.std.proofs.Common.{◌≡◌, ◌∙◌, ℕ, List, Option, None, Some, Result, Ok, Err, IfSome, refl, subst, sym}
 use Rattle.std.proofs.lemmas.Bool.{false_from_ne_true}
 use Rattle.cache_store.specs.DoneFor.{IsDoneFor}
 use Rattle.cache_store.specs.Open.{KeepsTo, Tells}
@@ -15,12 +15,11 @@ use Rattle.cache_theory.specs.Checks.{checks}
 use Rattle.cache_theory.specs.Command.{Command}
 use Rattle.cache_theory.specs.Command.Command.{ClearOrigin}
 use Rattle.cache_theory.specs.Covers.{covers}
-use Rattle.cache_theory.specs.Crash.{IsSafe}
+use Rattle.cache_theory.specs.Crash.{IsCrashSafe, IsSafe}
 use Rattle.cache_theory.specs.History.{History, acked}
 use Rattle.cache_theory.specs.Machine.{Machine}
 use Rattle.cache_theory.specs.Marks.{Marks, acked as acked_marks, marks_of}
 use Rattle.cache_theory.specs.Step.{effect, step}
-use Rattle.cache_theory.specs.Table.{get}
 use Rattle.cache_theory.proofs.Clears.ClearedNames.{none_left}
 use Rattle.cache_theory.proofs.CrashImages.Crashes.{safe_is_crash_safe}
 use Rattle.cache_base.specs.declared.status.Status.{Status}
@@ -31,12 +30,11 @@ use Rattle.disk_theory.specs.State.{State}
 use Rattle.entry_key.specs.Tags.{value_hash}
 
 -- it was not begun
-pub none_cleared : (origin : List ℕ) (w : Marks) (t : State) → IsSafe t w → LeavesNoneOrAll origin w t
-none_cleared origin w t safe = record {
-  before = t;
-  safe = safe_is_crash_safe t w safe;
-  images = λ image is. AsBefore image (safe_is_crash_safe t w safe image is) (λ key. refl);
-}
+pub safe_clears_none : (origin : List ℕ) (w : Marks) (t : State) → IsCrashSafe t w → LeavesNoneOrAll origin w t
+safe_clears_none origin w t safe = record { before = t; safe = safe; images = λ image is. AsBefore image (safe image is) (λ key. refl) }
+
+none_cleared : (origin : List ℕ) (w : Marks) (t : State) → IsSafe t w → LeavesNoneOrAll origin w t
+none_cleared origin w t safe = safe_clears_none origin w t (safe_is_crash_safe t w safe)
 
 -- nor is it where the session goes on to be closed
 pub not_cleared : (origin : List ℕ) (h : History) (came : Status) (now : Session) → KeepsTo now h → MayHaveCleared origin h.marks came now

@@ -22,7 +22,7 @@ use Rattle.cache_tool.specs.Script.{performed}
 use Rattle.cache_tool.specs.Verbs.{marks_behind}
 use Rattle.cache_tool.proofs.DoneLaws.{done_as_long}
 use Rattle.context_clear.specs.Mark.{mark_of}
-use Rattle.disk_theory.specs.State.{standing}
+use Rattle.disk_theory.specs.State.{State, standing}
 use Rattle.evictor.specs.Evict.{victims}
 use Rattle.index_record.specs.declared.record.IndexRecord.{IndexRecord}
 use Rattle.index_theory.specs.Honest.{Honest}
@@ -194,34 +194,43 @@ module _ (faults : List ℕ) where
 
 -- ---- a run of a script
 
+module _ (s : State) (m : Machine) (d : Command) (cs done : List Command) (with_last : List ℕ) (honest : Honest (standing s)) (is : IsResumedBy (AreAtOpening s m) (mark_of m.mark) m d)
+    (as_many : length done ≡ length cs) (are : AreDoneFor (Honest (standing s)) (step m d).next (unfaulted with_last cs) (unfaulted with_last done)) where
+  first : IsSame m Resume d
+  first = resume_same m d (AreAtOpening s m) (λ records at. at.honest honest) (mark_of m.mark) refl is
+
+  next : (step m d).next ≡ (step m Resume).next
+  next = next_same m Resume d first
+
+  front : (b : ℕ) → AreDoneFor (Honest (standing s)) (step m d).next (unfaulted with_last (take b cs)) (unfaulted with_last (take b done))
+  front b = done_front with_last (Honest (standing s)) 1 b (step m d).next cs done as_many are
+
+  size : (b : ℕ) → length (unfaulted with_last (take b done)) ≡ length (unfaulted with_last (take b cs))
+  size b = sym (done_as_long (Honest (standing s)) (step m d).next (unfaulted with_last (take b cs)) (unfaulted with_last (take b done)) (front b))
+
+  -- the marks where the first a are acknowledged, and those up to b have begun
+  pub marks_are_of_script : (a b : ℕ) → marks_behind m d done with_last a b ≡ marks_behind m Resume cs with_last a b
+  marks_are_of_script a b =
+      let kept : ℕ = length (unfaulted with_last (take a cs)) in
+      let begun : List Command = unfaulted with_last (take b cs) in
+      ap₂ (λ x y. marks_from (step m d).next (unfaulted with_last (take b done)) (acked m d (marks_of m)) x y) (size a) (size b)
+      ∙ marks_same (Honest (standing s)) honest (step m d).next begun (unfaulted with_last (take b done)) (front b) (acked m d (marks_of m)) kept (length begun)
+      ∙ ap₂ (λ n x. marks_from n begun x kept (length begun)) next (first.ends (marks_of m))
+
+  states : (p : ℕ) → after m (d ∷ unfaulted with_last (take p done)) ≡ after m (Resume ∷ unfaulted with_last (take p cs))
+  states p =
+      states_same (Honest (standing s)) honest (step m d).next (unfaulted with_last (take p cs)) (unfaulted with_last (take p done)) (front p)
+      ∙ ap (λ n. after n (unfaulted with_last (take p cs))) next
+
 pub run_is_of_script : RunIsOfScript
 run_is_of_script s m d cs done with_last honest is as_many are ended acked_now = record {
-  marks = ap (λ n. marks_behind m d done with_last acked_now (min (acked_now + 1) n)) as_many ∙ marks acked_now (min (acked_now + 1) (length cs));
-  states = ap (λ n. after m (d ∷ unfaulted with_last (take (performed ended acked_now n) done))) as_many ∙ states (performed ended acked_now (length cs));
-  answers = answers_same with_last (Honest (standing s)) honest 1 (step m d).next cs done as_many are ∙ ap (λ n. replies_from 1 with_last n cs) next;
+  marks =
+      ap (λ n. marks_behind m d done with_last acked_now (min (acked_now + 1) n)) as_many
+      ∙ marks_are_of_script s m d cs done with_last honest is as_many are acked_now (min (acked_now + 1) (length cs));
+  states =
+      ap (λ n. after m (d ∷ unfaulted with_last (take (performed ended acked_now n) done))) as_many
+      ∙ states s m d cs done with_last honest is as_many are (performed ended acked_now (length cs));
+  answers =
+      answers_same with_last (Honest (standing s)) honest 1 (step m d).next cs done as_many are
+      ∙ ap (λ n. replies_from 1 with_last n cs) (next s m d cs done with_last honest is as_many are);
 }
-  where
-    first : IsSame m Resume d
-    first = resume_same m d (AreAtOpening s m) (λ records at. at.honest honest) (mark_of m.mark) refl is
-
-    next : (step m d).next ≡ (step m Resume).next
-    next = next_same m Resume d first
-
-    front : (b : ℕ) → AreDoneFor (Honest (standing s)) (step m d).next (unfaulted with_last (take b cs)) (unfaulted with_last (take b done))
-    front b = done_front with_last (Honest (standing s)) 1 b (step m d).next cs done as_many are
-
-    size : (b : ℕ) → length (unfaulted with_last (take b done)) ≡ length (unfaulted with_last (take b cs))
-    size b = sym (done_as_long (Honest (standing s)) (step m d).next (unfaulted with_last (take b cs)) (unfaulted with_last (take b done)) (front b))
-
-    marks : (a b : ℕ) → marks_behind m d done with_last a b ≡ marks_behind m Resume cs with_last a b
-    marks a b =
-        let kept : ℕ = length (unfaulted with_last (take a cs)) in
-        let begun : List Command = unfaulted with_last (take b cs) in
-        ap₂ (λ x y. marks_from (step m d).next (unfaulted with_last (take b done)) (acked m d (marks_of m)) x y) (size a) (size b)
-        ∙ marks_same (Honest (standing s)) honest (step m d).next begun (unfaulted with_last (take b done)) (front b) (acked m d (marks_of m)) kept (length begun)
-        ∙ ap₂ (λ n x. marks_from n begun x kept (length begun)) next (first.ends (marks_of m))
-
-    states : (p : ℕ) → after m (d ∷ unfaulted with_last (take p done)) ≡ after m (Resume ∷ unfaulted with_last (take p cs))
-    states p =
-        states_same (Honest (standing s)) honest (step m d).next (unfaulted with_last (take p cs)) (unfaulted with_last (take p done)) (front p)
-        ∙ ap (λ n. after n (unfaulted with_last (take p cs))) next

@@ -1,5 +1,5 @@
 -- What a stop leaves of a clearing: nothing of it, its mark, or all of it.
-use Rattle.std.specs.Prelude.{List, ℕ, ◌≡◌}
+use Rattle.std.specs.Prelude.{List, ℕ}
 use Rattle.cache_base.specs.declared.status.Status.{Status}
 use Rattle.cache_store.specs.Open.{KeepsTo}
 use Rattle.cache_store.specs.Session.{Session}

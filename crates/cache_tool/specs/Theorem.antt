@@ -1,26 +1,29 @@
 -- The theorem on one page: six laws, and one of a `put` that stops. Each follows from what `run` ensures by its clause
 -- `performs`, and by nothing else of it.
 use Rattle.std.specs.Io.KnownBytes.{Appends}
-use Rattle.std.specs.Prelude.{IfSome, IsSome, IsSomeAnd, List, None, Some, [], length, suc, false, true, ℕ, ◌<◌, ◌≡◌, ◌^◌, ◌⊎◌}
+use Rattle.std.specs.Prelude.{IfSome, IsSome, IsSomeAnd, List, None, Some, [], length, slice_get, suc, false, true, ℕ, ◌∷◌, ◌<◌, ◌≡◌, ◌^◌, ◌⊎◌}
 use Rattle.cache_base.specs.Bytes.{AreBytes}
 use Rattle.cache_base.specs.declared.status.Status.{Status}
 use Rattle.cache_base.specs.declared.status.Status.TheVariants as status
 use Rattle.cache_store.specs.Open.{StartsOn}
 use Rattle.cache_theory.specs.Cleared.{IsClearedAt, IsCovered}
 use Rattle.cache_theory.specs.Command.{Command}
-use Rattle.cache_theory.specs.Command.Command.{Get, Resume}
+use Rattle.cache_theory.specs.Command.Command.{ClearOrigin, Get, Resume}
 use Rattle.cache_theory.specs.Covers.{covers}
 use Rattle.cache_theory.specs.Crash.{NoChance}
 use Rattle.cache_theory.specs.Faulted.{Faulted, faulted}
 use Rattle.cache_theory.specs.Machine.{Machine}
 use Rattle.cache_theory.specs.Marks.{rewritten}
+use Rattle.cache_theory.specs.Session.{marks_between}
 use Rattle.cache_theory.specs.Step.{after, step}
 use Rattle.cache_theory.specs.Table.{get}
 use Rattle.cache_theory.specs.Text.{CommandsIn, version_text}
 use Rattle.cache_theory.specs.Wording.{IsLastSettled, IsRewrittenIn, IsTouchedIn, IsWrittenIn, state_at}
 use Rattle.cache_tool.specs.ByVerb.{Performs}
+use Rattle.cache_tool.specs.Clearings.{LeavesNoneOrAll}
 use Rattle.cache_tool.specs.SameAsScript.{acked_in, begun_in}
 use Rattle.cache_tool.specs.Statuses.{IsAnswer, IsClosing}
+use Rattle.cache_tool.specs.Verbs.{marks_behind}
 use Rattle.cache_tool.specs.Words.{Asked}
 use Rattle.cache_tool.specs.World.{World}
 use Rattle.context_clear.specs.Mark.{mark_of}
@@ -136,12 +139,26 @@ ClearedStaysGone = (m : Machine) (cs : List Command) (out : List ℕ) (f : ℕ) 
 
 -- ---- a clearing that was stopped, and the index
 
+-- 4. Where the next command of the script is a clearing, a crash leaves the mark of its origin; or under each key what
+-- one could leave before it; or no version of the origin that is not pinned.
+abbrev pub StoppedClearingIsNoneOrAll : Type 0
+StoppedClearingIsNoneOrAll = (m : Machine) (cs : List Command) (out : List ℕ) (before now : World)
+    → ScriptCall m cs out before now → let told = faulted (step m Resume).next cs out in
+    (origin : List ℕ) → slice_get cs told.answered ≡ Some (ClearOrigin origin)
+    → LeavesNoneOrAll origin (marks_behind m Resume cs told.faults told.answered told.answered) now.disk
+
+-- So it is where the words are of one clearing.
+abbrev pub ClearIsNoneOrAll : Type 0
+ClearIsNoneOrAll = (origin : List ℕ) (moment : ℕ) (m : Machine) (ended : Status) (before now : World)
+    → CleanCall (Asked.One moment (ClearOrigin origin)) m ended before now
+    → LeavesNoneOrAll origin (marks_between m (Resume ∷ []) 1 1) now.disk
+
 -- the words are of one command that writes no entry
 abbrev pub WritesNone : Asked → Type 0
 WritesNone (Asked.One now c) = (t : Machine) → rewritten t c ≡ None
 WritesNone _ = ⊥
 
--- 4. A clearing that was stopped, so that its mark stands, is done by the next run, if that closed the store: no mark is
+-- A clearing that was stopped, so that its mark stands, is done by the next run, if that closed the store: no mark is
 -- left, and no entry of the origin is found that is not pinned.
 abbrev pub StoppedClearingIsDone : Type 0
 StoppedClearingIsDone = (asked : Asked) (m : Machine) (ended : Status) (before now : World)

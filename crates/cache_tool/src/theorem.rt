@@ -1,7 +1,7 @@
 //! The theorem on one page: what follows from the contract of `run`, in the words of a reader. Each law goes by the
 //! clause `performs` alone, so a caller of `run` has it in one step.
 
-ghost use Rattle.cache_tool.specs.Theorem.{ClearedStaysGone, PutDoesStoppedClearing, PutIsAllOrNothing, PutIsGot, ScriptDoesStoppedClearing, ScriptUpdatesIndex, StoppedClearingIsDone, TouchedIsGoneOrWhole, TrustedIndexIsScan, UntouchedIsIntact, UpdatedIndexIsTrusted};
+ghost use Rattle.cache_tool.specs.Theorem.{ClearIsNoneOrAll, ClearedStaysGone, PutDoesStoppedClearing, PutIsAllOrNothing, PutIsGot, ScriptDoesStoppedClearing, ScriptUpdatesIndex, StoppedClearingIsDone, StoppedClearingIsNoneOrAll, TouchedIsGoneOrWhole, TrustedIndexIsScan, UntouchedIsIntact, UpdatedIndexIsTrusted};
 
 /// Wherever a script stopped, an entry that no command touched since the last acknowledged flush or clearing is intact.
 pub fn untouched_is_intact()
@@ -19,8 +19,11 @@ pub fn cleared_stays_gone()
     ensures { ClearedStaysGone }
 {}
 
-/// A clearing that was stopped is done by the next run.
+/// A clearing that is stopped leaves nothing of it, its mark, or all of it; and where its mark stands it is done by the
+/// next run.
 pub fn stopped_clearing_is_done()
+    ensures stopped { StoppedClearingIsNoneOrAll }
+    ensures clear { ClearIsNoneOrAll }
     ensures one { StoppedClearingIsDone }
     ensures script { ScriptDoesStoppedClearing }
     ensures put { PutDoesStoppedClearing }
