@@ -1,12 +1,15 @@
 -- How failures are accounted for.
-use Rattle.std.proofs.Common.{◌≡◌, ◌≢◌, ◌≤◌, ℕ, IsErrAnd, IsTrue, Option, Result, Ok, Err, refl, sym, subst, arith}
+use Rattle.std.proofs.Common.{◌≡◌, ◌≢◌, ◌≤◌, ◌⊎◌, ◌∙◌, inl, inr, ℕ, IfOk, IsErrAnd, IsTrue, Option, Result, Ok, Err, refl, sym, subst, arith}
 use Rattle.std.specs.Prelude.{IsErrOf}
 use Rattle.cache_base.specs.Causes.{HasCause, Rose}
+use Rattle.cache_base.specs.declared.status.Status.{Status}
+use Rattle.cache_base.specs.declared.status.Status.TheVariants as status
 use Rattle.cache_store.specs.Faults.{fault_ending}
 use Rattle.cache_store.specs.declared.outcome.Outcome.{Outcome}
 use Rattle.cache_store.specs.declared.fault.StoreFault.{StoreFault}
 use Rattle.cache_store.specs.declared.fault.StoreFault.TheVariants as fault
-use Rattle.cache_tool.specs.Tally.{Failure, IsAccounted, Tally, fault_failure, turn_failure}
+use Rattle.cache_tool.specs.Statuses.{status_in}
+use Rattle.cache_tool.specs.Tally.{Failure, IsAccounted, Tally, fault_failure, script_failure, turn_failure}
 use Rattle.cache_tool.specs.declared.script.ScriptEnd.{ScriptEnd}
 use Rattle.disk_theory.specs.Account.{Ending}
 use Rattle.disk_theory.specs.Calls.{StopsAtFault}
@@ -64,3 +67,12 @@ answer_accounted o before now calm sink later went_on stops = record {
   went_on = λ sound room. went_on;
   stops = stops;
 }
+
+-- the status of a script is that of a sink that failed only where it was so
+pub sink_failed : (came : Result Status StoreFault) → IfOk came (λ s. (s ≡ status.Done) ⊎ ((s ≡ status.Script) ⊎ (s ≡ status.Source))) → status_in came ≡ status.Sink → script_failure came ≡ Failure.OfSinkCall
+sink_failed (Ok s) (inl done) sink = let e : status.Done ≡ status.Sink = sym done ∙ sink in absurd (cc e)
+sink_failed (Ok s) (inr (inl script)) sink = let e : status.Script ≡ status.Sink = sym script ∙ sink in absurd (cc e)
+sink_failed (Ok s) (inr (inr source)) sink = let e : status.Source ≡ status.Sink = sym source ∙ sink in absurd (cc e)
+sink_failed (Err fault.Memory) only sink = absurd (cc sink)
+sink_failed (Err fault.Disk) only sink = absurd (cc sink)
+sink_failed (Err fault.Sink) only sink = refl

@@ -2,7 +2,7 @@
 use Rattle.std.proofs.Common.{◌≡◌, ◌≢◌, ◌≤◌, ◌⊎◌, inl, inr, Bool, true, false, List, ℕ, Option, Ok, ap, refl}
 use Rattle.std.specs.Io.KnownBytes.{Appends}
 use Rattle.std.specs.Prelude.{Err, IsTrue, OnErr, OnOk, Result}
-use Rattle.cache_base.specs.Causes.{Rose}
+use Rattle.cache_base.specs.Causes.{Rose, RoseOnce}
 use Rattle.cache_store.specs.Faulting.{FailsForGood, StaysAs}
 use Rattle.cache_store.specs.Faults.{ending, fault_ending}
 use Rattle.cache_store.specs.Outcomes.{Faults, verdict_in}
@@ -19,6 +19,7 @@ use Rattle.cache_theory.specs.Command.Command.{Resume}
 use Rattle.cache_theory.specs.Faulted.{fault_line}
 use Rattle.cache_tool.specs.Staying.{StaysFor}
 use Rattle.cache_tool.specs.World.{Sitting}
+use Rattle.cache_tool.proofs.Counting.{rose_once}
 use Rattle.cache_tool.proofs.ForGood.{disk_of}
 use Rattle.disk_theory.specs.Account.{Accounts, Ending}
 use Rattle.disk_theory.specs.Calls.{LastCallFails, StopsAtFault}
@@ -29,14 +30,14 @@ use Rattle.index_map.specs.Known.{SameBase}
 pub record AnswersByReply (tells : Bool) (c : Command) (answer : Result Verdict StoreFault) (before now : Sitting) : Type 0 where
   pub performs : IsTrue tells → PerformsFor c answer before.session now.session before.taken now.taken
   pub stays : IsTrue tells → StaysFor {T = Verdict} c answer before.session now.session
-  pub rose : answer ≡ Err fault.Disk → Rose before.disk_faults now.disk_faults
+  pub rose : answer ≡ Err fault.Disk → RoseOnce before.disk_faults now.disk_faults
   pub kept : answer ≢ Err fault.Disk → now.disk_faults ≡ before.disk_faults
   pub for_good : c ≢ Resume → answer ≡ Err fault.Disk → IsTrue tells → FailsForGood now.disk_counts c (cache_of before.session) before.taken now.taken
   pub last : answer ≡ Err fault.Disk → IsTrue tells → LastCallFails now.disk_counts
 
 -- by the line `fault`, where a look at the disk failed and all is as it was
 pub record AnswersByFault (tells : Bool) (answer : Result Verdict StoreFault) (before now : Sitting) : Type 0 where
-  pub rose : Rose before.disk_faults now.disk_faults
+  pub rose : RoseOnce before.disk_faults now.disk_faults
   pub no_disk : answer ≢ Err fault.Disk
   pub stays : IsTrue tells → StaysAs before.session now.session
   pub base : SameBase before.session.open_store.index.map now.session.open_store.index.map
@@ -44,7 +45,7 @@ pub record AnswersByFault (tells : Bool) (answer : Result Verdict StoreFault) (b
   pub cut : OnErr answer (IsCut before.taken now.taken fault_line)
 
 abbrev pub AnswersNext : Bool → Command → Result Verdict StoreFault → Sitting → Sitting → Type 0
-AnswersNext tells c answer before now = (before.disk_faults ≤ now.disk_faults) × (AnswersByReply tells c answer before now ⊎ AnswersByFault tells answer before now)
+AnswersNext tells c answer before now = AnswersByReply tells c answer before now ⊎ AnswersByFault tells answer before now
 
 -- whether the line was said tells which
 pub by_flag : {X : Type 0} (faulting : Bool) → (faulting ≡ false → X) → (faulting ≡ true → X) → X
@@ -81,29 +82,25 @@ module _ {Self : _} {most : ℕ} (D : OfDisk Self) (result : Result Outcome Stor
       (record { taken = later; session = session D new now; disk_faults = D.faults now; disk_counts = D.counts now })
   answers_next c performs stays fails =
       by_flag new.faulting
-      (λ calm. (
-        (account calm).cause.later,
-        inl (record {
-          performs = performs calm;
-          stays = stays calm;
-          rose = λ e. (account calm).cause.rose (disk_ending result e);
-          kept = λ other. (account calm).cause.kept (λ failed. other (ap verdict_in (disk_of result failed)));
-          for_good = λ no_resume e told. fails no_resume (disk_in result e) told;
-          last = λ e told. (account calm).last (disk_ending result e) told;
-        }),
-      ))
+      (λ calm.
+      inl (record {
+        performs = performs calm;
+        stays = stays calm;
+        rose = λ e. (account calm).cause.rose (disk_ending result e);
+        kept = λ other. (account calm).cause.kept (λ failed. other (ap verdict_in (disk_of result failed)));
+        for_good = λ no_resume e told. fails no_resume (disk_in result e) told;
+        last = λ e told. (account calm).last (disk_ending result e) told;
+      }))
       (λ failed.
-      let is = faults failed in (
-        is.looked.cause.later,
-        inr (record {
-          rose = is.looked.cause.rose refl;
-          no_disk = no_disk_in result is.no_disk;
-          stays = is.stays;
-          base = is.base;
-          printed = on_ok_in result (Appends taken later fault_line) is.printed;
-          cut = on_err_in result (IsCut taken later fault_line) is.cut;
-        }),
-      ))
+      let is = faults failed in
+      inr (record {
+        rose = is.looked.cause.rose refl;
+        no_disk = no_disk_in result is.no_disk;
+        stays = is.stays;
+        base = is.base;
+        printed = on_ok_in result (Appends taken later fault_line) is.printed;
+        cut = on_err_in result (IsCut taken later fault_line) is.cut;
+      }))
 
   -- no change failed, unless that is the answer, and the disk stopped at one that did
   pub answer_went_on : ending result ≡ Ending.NoneFailed → IsTrue D.tells → (D.counts now).failed ≡ (D.counts before).failed
@@ -119,4 +116,4 @@ module _ {Self : _} {most : ℕ} (D : OfDisk Self) (result : Result Outcome Stor
 pub answer_rose : {Self : _} {most : ℕ} (D : OfDisk Self) (f : StoreFault) (old new : Store) (before now : Self) (taken later : Option (List ℕ)) → (new.faulting ≡ true → Faults D (Err f) old new before now taken later)
     → (new.faulting ≡ false → Accounts D (ending {T = Outcome} (Err f)) most before now) → f ≡ fault.Disk → Rose (D.faults before) (D.faults now)
 answer_rose D f old new before now taken later faults account disk =
-    by_flag new.faulting (λ calm. (account calm).cause.rose (ap fault_ending disk)) (λ failed. absurd ((faults failed).no_disk (ap (λ x. Err x) disk)))
+    by_flag new.faulting (λ calm. rose_once (D.faults before) (D.faults now) ((account calm).cause.rose (ap fault_ending disk))) (λ failed. absurd ((faults failed).no_disk (ap (λ x. Err x) disk)))

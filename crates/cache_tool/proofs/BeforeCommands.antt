@@ -1,10 +1,10 @@
 -- How the disk fails before any command, where the store did not open or a clearing was not resumed.
-use Rattle.std.proofs.Common.{◌≡◌, ◌≤◌, ◌+◌, ◌⊎◌, inl, inr, ℕ, IsTrue, Result, None, ap, arith, refl, subst, sym, ◌∙◌}
+use Rattle.std.proofs.Common.{◌≡◌, ◌≤◌, ◌+◌, ◌⊎◌, inl, inr, None, ap, arith, subst, sym, ◌∙◌}
 use Rattle.cache_store.specs.IndexCalls.{LooksOnceAt}
 use Rattle.cache_store.specs.Open.{FailsInOpening, IsBehindOpening, opening_behind}
 use Rattle.cache_store.proofs.Sessions.BehindOpening.{look_behind}
 use Rattle.cache_tool.specs.Beginning.{FailsBeforeCommands}
-use Rattle.disk_theory.specs.Calls.{Counts, IsBehindSync, LastFails, counted_look}
+use Rattle.disk_theory.specs.Calls.{Counts, LastFails}
 use Rattle.disk_theory.specs.State.{State, standing}
 use Rattle.disk_theory.specs.declared.disk.Disk.{Ghosts}
 use Rattle.disk_theory.specs.declared.place.Place.TheVariants.{Clear}

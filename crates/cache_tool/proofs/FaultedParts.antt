@@ -1,5 +1,5 @@
 -- Commands of which the next one is answered `fault`, and more commands after it.
-use Rattle.std.proofs.Common.{◌≡◌, ◌≢◌, ◌<◌, ◌≤◌, ◌+◌, ◌||◌, ◌==◌, List, [], ◌∷◌, ◌++◌, cond, false, length, refl, sym, ap, subst, suc, ℕ, ◌∙◌, append_assoc, arith, length-append, ne_eqb}
+use Rattle.std.proofs.Common.{◌≡◌, ◌<◌, ◌≤◌, ◌+◌, ◌||◌, ◌==◌, List, [], ◌∷◌, ◌++◌, cond, false, length, refl, sym, ap, subst, suc, ℕ, ◌∙◌, append_assoc, arith, ne_eqb}
 use Rattle.cache_theory.specs.Command.{Command}
 use Rattle.cache_theory.specs.Faulted.{AreFaults, fault_line, is_faulted, replies_but, unfaulted, unfaulted_from, with_next}
 use Rattle.cache_theory.specs.Machine.{Machine}
@@ -10,10 +10,6 @@ use Rattle.cache_theory.proofs.Faults.FaultedOn.{faults_are_in_front, next_is_nu
 pub one_longer : {X : Type 0} (ds : List X) (d : X) → suc (length ds) ≡ length (ds ++ d ∷ [])
 one_longer [] d = refl
 one_longer (e ∷ ds) d = ap suc (one_longer ds d)
-
--- with that of the next one there is a number
-pub some_next : (p : ℕ) (faults : List ℕ) → with_next p faults ≢ []
-some_next p faults none = omega (arith, ap length none, length-append faults (suc p ∷ []))
 
 -- a number after the others does not matter before it
 same_before : (faults : List ℕ) (last n : ℕ) → n < last → is_faulted (faults ++ last ∷ []) n ≡ is_faulted faults n

@@ -49,12 +49,20 @@ ends_by_disk ended before now ends = record {
   mark = ends.mark;
 }
 
--- the store was closed, or the disk failed in that
-pub closed_or : (came : Result Status StoreFault) (ended : Status) {P : Type 0} {R : Type 0} → (came ≡ Ok status.No) ⊎ (came ≡ Err fault.Memory)
-    → (ended ≡ status_in came) ⊎ ((ended ≡ status.Disk) ⊎ (ended ≡ status.Memory)) → ended ≢ status.Memory → (¬ (IsClosing (status_in came)) → ended ≡ status_in came)
-    → (ended ≡ status.No → P) → (IsClosing (status_in came) → ended ≡ status.Disk → R) → P ⊎ R
-closed_or came ended (inl is) (inl same) other dropped shut rose = inl (shut (same ∙ ap status_in is))
-closed_or came ended (inl is) (inr (inl disk)) other dropped shut rose = inr (rose (subst (λ c. IsClosing (status_in c)) (sym is) tt) disk)
-closed_or came ended (inl is) (inr (inr memory)) other dropped shut rose = absurd (other memory)
-closed_or came ended (inr is) ends other dropped shut rose =
-    absurd (other (dropped (λ closing. subst (λ c. IsClosing (status_in c)) is closing) ∙ ap status_in is))
+-- the store was closed or memory ran out, or the disk failed in the closing
+pub closed_or : (came : Result Status StoreFault) (ended : Status) {P R : Type 0} → (came ≡ Ok status.No) ⊎ (came ≡ Err fault.Memory)
+    → (ended ≡ status_in came) ⊎ ((ended ≡ status.Disk) ⊎ (ended ≡ status.Memory))
+    → (IsClosing (status_in came) → (ended ≡ status.No) ⊎ (ended ≡ status.Memory) → P) → (IsClosing (status_in came) → ended ≡ status.Disk → R) → (¬ (IsClosing (status_in came)) → P) → P ⊎ R
+closed_or came ended (inl is) (inl same) shut failed dropped = inl (shut (subst (λ c. IsClosing (status_in c)) (sym is) tt) (inl (same ∙ ap status_in is)))
+closed_or came ended (inl is) (inr (inl disk)) shut failed dropped = inr (failed (subst (λ c. IsClosing (status_in c)) (sym is) tt) disk)
+closed_or came ended (inl is) (inr (inr memory)) shut failed dropped = inl (shut (subst (λ c. IsClosing (status_in c)) (sym is) tt) (inr memory))
+closed_or came ended (inr is) same shut failed dropped = inl (dropped (λ closing. subst (λ c. IsClosing (status_in c)) is closing))
+
+-- after the line the store is not closed only where memory ran out
+pub drops_by_memory : (came : Result Status StoreFault) {ended : Status} → (came ≡ Ok status.No) ⊎ (came ≡ Err fault.Memory) → ¬ (IsClosing (status_in came)) → ended ≡ status_in came → ended ≡ status.Memory
+drops_by_memory came (inl is) not same = absurd (not (subst (λ c. IsClosing (status_in c)) (sym is) tt))
+drops_by_memory came (inr is) not same = same ∙ ap status_in is
+
+pub no_or_memory : (ended : Status) → (ended ≡ status.No) ⊎ (ended ≡ status.Memory) → ended ≢ status.Disk
+no_or_memory ended (inl nay) disk = let both : status.No ≡ status.Disk = sym nay ∙ disk in cc
+no_or_memory ended (inr memory) disk = let both : status.Memory ≡ status.Disk = sym memory ∙ disk in cc

@@ -4,6 +4,7 @@ pub mod BeforeCommands
 pub mod Begun
 pub mod ClearedInRun
 pub mod Clearings
+pub mod Counting
 pub mod Dated
 pub mod DoneKept
 pub mod DoneLaws

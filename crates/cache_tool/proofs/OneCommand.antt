@@ -1,10 +1,10 @@
 -- What one command of a session comes to.
 use Rattle.std.proofs.Common.{◌≡◌, ◌≢◌, ◌≤◌, ◌+◌, ◌*◌, ◌⊎◌, ⊎_elim, inl, inr, ℕ, ◌∷◌, ◌∙◌, [], List, length, Option, Result, Ok, Err, refl, sym, ap, subst, arith}
 use Rattle.std.specs.Io.KnownBytes.{Appends}
-use Rattle.std.specs.Prelude.{IsOkAnd, MatchResult, OnErr, OnOk}
+use Rattle.std.specs.Prelude.{IfOk, IsOkAnd, MatchResult, OnErr, OnOk}
 use Rattle.std.proofs.KnownBytes.{Appends-nil, Keeps-refl}
 use Rattle.std.proofs.lemmas.List.{take_all}
-use Rattle.cache_base.specs.Causes.{HasCause, Rose}
+use Rattle.cache_base.specs.Causes.{CountsFailure, Rose, RoseOnce, one_more, raised_by}
 use Rattle.cache_base.specs.declared.status.Status.{Status}
 use Rattle.cache_base.specs.declared.status.Status.TheVariants as status
 use Rattle.cache_replies.specs.Answers.{outcome_of}
@@ -34,15 +34,15 @@ use Rattle.cache_tool.specs.Right.{LeadTo}
 use Rattle.cache_tool.specs.Syncs.{SyncsWithin, opening_syncs}
 use Rattle.cache_tool.specs.Statuses.{IsAnswer, IsClosing, status_in, status_of}
 use Rattle.cache_tool.specs.Staying.{StaysOnce}
-use Rattle.cache_tool.specs.Tally.{RoseBy}
 use Rattle.cache_tool.specs.Verbs.{HasNotBegun, LeavesDisk, PrintsFault, PrintsLast, StopsForGood, all_begun_none_acked, none_begun, none_performed}
 use Rattle.cache_tool.specs.World.{Output}
 use Rattle.cache_tool.proofs.Clearings.{closes_after}
-use Rattle.cache_tool.proofs.MarkLeft.{leaves_mark}
+use Rattle.cache_tool.proofs.Counting.{raised_more}
+use Rattle.cache_tool.proofs.MarkLeft.{closed_leaves_mark, leaves_mark, none_change_mark}
 use Rattle.cache_tool.proofs.RightLaws.{leads_begun, leads_none, leads_one, leads_still}
 use Rattle.cache_tool.proofs.SessionEnds.{ends_leave, stops_leave}
 use Rattle.disk_theory.specs.Account.{Ending}
-use Rattle.disk_theory.specs.Calls.{Counts, LastCallFails, LastFails}
+use Rattle.disk_theory.specs.Calls.{Counts, LastCallFails, LastFailed, LastFails}
 use Rattle.disk_theory.specs.State.{State}
 use Rattle.index_map.specs.Known.{SameBase}
 use Rattle.index_theory.specs.Honest.{LeavesHonest}
@@ -124,7 +124,7 @@ pub none_read : {m n : ℕ} → n ≤ m + meta_looks * 0 → n ≤ m
 none_read few = omega (arith, few)
 
 pub not_begun : {moment : ℕ} {counts : Counts} {T : Type 0} (before : Output) (t : State) (faults : ℕ) (answer : Result T StoreFault) (f : StoreFault) (ended : Status) → answer ≡ Err f → answer ≢ Err fault.Sink → ended ≡ status_in (Err f)
-    → HasCause (ending answer ≡ Ending.OneFailed) before.disk_faults faults → (ending answer ≡ Ending.OneFailed → LastCallFails counts) → (ending answer ≡ Ending.OneFailed → FailsBeforeCommands before.disk t before.disk_counts counts) → ReadsNone before.disk before.disk_counts counts → SyncsWithin opening_syncs before.disk_counts counts → FailsToBegin moment before.disk t
+    → CountsFailure (ending answer ≡ Ending.OneFailed) before.disk_faults faults → (ending answer ≡ Ending.OneFailed → LastCallFails counts) → (ending answer ≡ Ending.OneFailed → FailsBeforeCommands before.disk t before.disk_counts counts) → ReadsNone before.disk before.disk_counts counts → SyncsWithin opening_syncs before.disk_counts counts → FailsToBegin moment before.disk t
     → (m : Machine) → StartsOn moment before.disk m → HasNotBegun m ended before (record before { disk = t; disk_faults = faults; disk_counts = counts })
 not_begun before t faults answer f ended failed no_sink same cause last opening none syncs fails m is =
     let stop : IsStop ended = no_sink_stops answer f ended failed no_sink same in
@@ -181,7 +181,7 @@ module _ {moment : ℕ} (before now : Output) (mid last : Session) (begins : Beg
   abbrev at : History
   at = acked (begins.resumed m is).done (settled_at m)
 
-  module _ (c : Command) (ends : EndsSession ended last now.disk) where
+  module _ (c : Command) (ends : EndsSession ended last now.disk) (cause : CountsFailure (ended ≡ status.Disk) before.disk_faults now.disk_faults) where
     -- what a session leaves whose command had its effect, and may have begun only for whoever looks at the disk
     led_leaves : LeadTo (c ∷ []) mid at.machine last (unanswered c at) → LeavesDisk m (all_begun_none_acked m (begins.resumed m is).done (c ∷ [])) ended before.disk now.disk
     led_leaves leads = ends_leave before.disk mid begins m is last now.disk ended ends (c ∷ []) (begun c at).marks (unanswered c at) leads refl (λ x safe. safe)
@@ -197,6 +197,7 @@ module _ {moment : ℕ} (before now : Output) (mid last : Session) (begins : Beg
         cut = λ is. absurd (stop_is_no_sink ended stop is);
       };
       silent = λ is. absurd (stop_is_no_source ended stop is);
+      cause = cause;
       for_good = good;
       leaves = stops_leave m (all_begun_none_acked m (begins.resumed m is).done (c ∷ [])) ended before.disk now.disk (stop_closes_not ended stop) (λ quiet. safe) (λ quiet honest. kept);
     }
@@ -209,6 +210,7 @@ module _ {moment : ℕ} (before now : Output) (mid last : Session) (begins : Beg
       answer = λ answer. answered_so so answer;
       text = record { printed = printed; part = part; cut = cut };
       silent = λ source. absurd (never_source so source);
+      cause = cause;
       for_good = λ disk. inl (last disk);
       leaves = led_leaves leads;
     }
@@ -275,19 +277,33 @@ module _ {moment : ℕ} (before now : Output) (mid last : Session) (begins : Beg
         ends_leave before.disk mid begins m is last now.disk final ends [] at.marks at (leads_still [] mid at.machine mid last at (leads_none mid at keeps) stays base) refl (λ x safe. safe)
 
     -- the line was printed, or a part of it, and all stayed as it was
-    pub faulted_prints : EndsSession ended last now.disk → IsStop ended → Rose before.disk_faults now.disk_faults → IsPart before.taken now.taken fault_line
+    pub faulted_prints : EndsSession ended last now.disk → IsStop ended → IsPart before.taken now.taken fault_line
         → (ended ≡ status.Disk → Appends before.taken now.taken fault_line ⊎ Rose before.sink_faults now.sink_faults)
-        → (ended ≡ status.Disk → EndsSession status.No last now.disk ⊎ RoseBy 2 before.disk_faults now.disk_faults) → PrintsFault m (begins.resumed m is).done ended before now
-    faulted_prints ends stop rose part said closed = record {
+        → (RoseOnce before.disk_faults now.disk_faults × (ended ≡ status.Disk → EndsSession status.No last now.disk × (now.disk_counts.failed ≡ before.disk_counts.failed))) ⊎ ((now.disk_faults ≡ raised_by 2 before.disk_faults) × LastFails now.disk_counts)
+        → PrintsFault m (begins.resumed m is).done ended before now
+    faulted_prints ends stop part said closed = record {
       failed = stop;
-      rose = rose;
       part = part;
       said = said;
       leaves = fault_leaves ended ends;
-      closed = λ disk. ⊎_elim (λ shut. inl (fault_leaves status.No shut)) (λ more. inr more) (closed disk);
+      mark = closed_leaves_mark [] before.disk mid.disk last.disk now.disk begins.mark (none_change_mark [] mid.disk last.disk stays.disk) ends.mark;
+      closed = ⊎_elim (λ once. inl (once.0, λ disk. (fault_leaves status.No (once.1 disk).0, (once.1 disk).1))) (λ twice. inr twice) closed;
     }
 
--- one fault after the other
-pub rose_twice : {P Q : Type 0} (a b c d : ℕ) → b ≡ a → Rose b c → P → (P → Q) ⊎ Rose c d → Q ⊎ RoseBy 2 a d
-rose_twice a b c d same first told (inl shut) = inl (shut told)
-rose_twice a b c d same first told (inr more) = inr (omega (arith, same, first, more))
+-- the look that failed, and maybe a call of the closing
+pub rose_twice : {P R S E : Type 0} {a b c d : ℕ} {x y z : LastFailed} → b ≡ a → RoseOnce b c → y ≡ x → P → ((d ≡ c) × (R → P → E × (z ≡ y))) ⊎ (RoseOnce c d × (P → S))
+    → (RoseOnce a d × (R → E × (z ≡ x))) ⊎ ((d ≡ raised_by 2 a) × S)
+rose_twice {a} {b} {c} {d} same first kept told (inl (calm, shut)) = inl (calm ∙ first ∙ ap one_more same, λ r. ((shut r told).0, (shut r told).1 ∙ kept))
+rose_twice {a} {b} {c} {d} same first kept told (inr (more, last)) = inr (raised_more 1 a c d more (first ∙ ap one_more same), last told)
+
+-- what came of a command goes on to be closed, or one fault ended it
+pub came_closes : (answer : Result Verdict StoreFault) (came : Result Status StoreFault) → CameBy answer came → IfOk came IsClosing
+came_closes (Ok o) (Ok s) by = outcome_closes o s by
+came_closes (Ok o) (Err f) by = tt
+came_closes (Err f) (Ok s) by = absurd (cc by)
+came_closes (Err f) (Err g) by = tt
+
+pub same_ending : (answer : Result Verdict StoreFault) (came : Result Status StoreFault) → CameBy answer came → ending answer ≡ ending came
+same_ending (Ok o) (Ok s) by = refl
+same_ending (Ok o) (Err f) by = absurd by
+same_ending (Err f) came by = sym (ap (λ r. ending r) by)

@@ -131,7 +131,7 @@ run_says_plainly m d bytes cs ended before now run = elim run.counts.last [
     are_done = subst (λ f. AreDoneFor (Honest (standing before.disk)) (step m d).next (unfaulted f cs) (unfaulted f run.done)) none run.are_done;
     crash = λ quiet. subst (λ f. IsCrashSafe now.disk (marks_behind m d run.done f run.acked (min (run.acked + 1) (length run.done)))) none (run.leaves.crash quiet);
   }
-  | inr (next, rose) ↦ go next
+  | inr next ↦ go next
 ]
   where
     within : run.acked ≤ length run.done

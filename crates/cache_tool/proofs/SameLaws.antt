@@ -6,14 +6,15 @@ use Rattle.cache_store.specs.DoneFor.{AreOfShelf, IsDoneFor, IsResumedBy}
 use Rattle.cache_theory.specs.Checks.{checks}
 use Rattle.cache_theory.specs.Command.{Command}
 use Rattle.cache_theory.specs.Command.Command.{ClearNames, ClearOrigin, Evict, EvictNames, HasEntry, HasGiven, ListGiven, ListRecords, Resume, ResumeNames, Verify, VerifyRecords}
-use Rattle.cache_theory.specs.Covers.{cleared, cleared_by, covered_by, resumed, resumed_by, taken_for_by}
+use Rattle.cache_theory.specs.Covers.{cleared, cleared_by, covered_by, resumed}
 use Rattle.cache_theory.specs.Faulted.{fault_line, is_faulted, replies_from, unfaulted, unfaulted_from}
 use Rattle.cache_theory.specs.Machine.{Machine, open_names}
 use Rattle.cache_theory.specs.Marks.{Marks, acked, all_acked, all_begun, begun, begun_by, marks_of}
 use Rattle.cache_theory.specs.Step.{Answer, after, effect, evicted, replies, step}
 use Rattle.cache_theory.specs.Text.{reply_text}
 use Rattle.cache_theory.specs.declared.refusal.Refusal.{Refusal}
-use Rattle.cache_theory.proofs.Clears.Clearing.{clear_goes_by_scan, resume_goes_by_scan, resume_is_of_names}
+use Rattle.cache_theory.proofs.Clears.Clearing.{clear_goes_by_scan, resume_is_of_names}
+use Rattle.cache_store.proofs.Clearing.StoppedResume.{resumed_by_scan}
 use Rattle.cache_tool.specs.Beginning.{AreAtOpening}
 use Rattle.cache_tool.specs.DoneFor.{AreDoneFor}
 use Rattle.cache_tool.specs.Right.{is_rebuild}
@@ -72,10 +73,6 @@ has_same m key there steps =
 resume_names : (m : Machine) → is_some (mark_of m.mark) ≡ true → IsSame m Resume (ResumeNames (resumed m))
 unfolding checks effect
 resume_names m some = record { steps = sym (resume_is_of_names m some).0; begins = λ w. refl; ends = λ w. refl }
-
-resumed_by_scan : (m : Machine) (origin : ℕ) → mark_of m.mark ≡ Some origin → resumed m ≡ covered_by (scan m.shelf) m origin
-unfolding resumed_by
-resumed_by_scan m origin is = resume_goes_by_scan m ∙ ap (taken_for_by (scan m.shelf) m) is
 
 -- a clearing that is resumed, by records that are those of all entries
 resume_same : (m : Machine) (d : Command) (Holds : List IndexRecord → Type 0) → ((records : List IndexRecord) → Holds records → records ≡ scan m.shelf) → (mark : Option ℕ) → mark_of m.mark ≡ mark → IsResumedBy Holds mark m d

@@ -1,5 +1,6 @@
 -- The result of a `fill`.
 use Rattle.std.specs.Prelude.{List, [], codes, ℕ, ◌++◌, ◌∷◌, ◌≡◌, ◌⊎◌}
+use Rattle.cache_base.specs.Causes.{CountsFailure}
 use Rattle.cache_base.specs.declared.status.Status.{Status}
 use Rattle.cache_base.specs.declared.status.Status.TheVariants as status
 use Rattle.cache_replies.specs.Answers.{outcome_of}
@@ -62,7 +63,9 @@ pub record PrintsFill (now count first : ℕ) (m : Machine) (d : Command) (ended
   -- with an answer the status is that of the check
   pub answer : IsAnswer ended → ended ≡ status_in_check filled
   pub text : PrintsText (lines_in filled) ended before after
-  -- no call of the disk follows one that failed
+  -- one call of the disk failed, or none did
+  pub cause : CountsFailure (ended ≡ status.Disk) before.disk_faults after.disk_faults
+  -- and no call follows one that failed
   pub last : ended ≡ status.Disk → LastCallFails after.disk_counts
   pub leaves : LeavesDisk m (all_begun_none_acked m d (done_in filled)) ended before.disk after.disk
 

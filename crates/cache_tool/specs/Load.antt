@@ -1,6 +1,7 @@
 -- The result of a `load`.
 use Rattle.std.specs.Io.KnownBytes.{Appends, Consumes, IsAtEnd, Keeps}
 use Rattle.std.specs.Prelude.{IfSome, IsSomeAnd, List, None, Option, Some, [], codes, decimal, flat_map, length, map, suc, ℕ, ◌++◌, ◌∷◌, ◌≡◌, ◌≢◌, ◌<◌, ◌≤◌, ◌+◌, ◌⊎◌}
+use Rattle.cache_base.specs.Causes.{CountsFailure}
 use Rattle.cache_base.specs.declared.status.Status.{Status}
 use Rattle.cache_base.specs.declared.status.Status.TheVariants as status
 use Rattle.cache_export.specs.Dump.{AreItems, IsDump}
@@ -154,7 +155,9 @@ pub record PrintsLoaded (m : Machine) (d : Command) (bytes : List ℕ) (ended : 
   pub stocked : IsStocked (step m d).next loaded.items
   pub found : FindsStock (step m d).next.shelf loaded.items
   pub prints : PrintsLoadLine bytes loaded read ended before.taken now.taken
-  -- no call of the disk follows one that failed, and no more syncs are made than the entries take
+  -- one call of the disk failed, or none did
+  pub cause : CountsFailure (ended ≡ status.Disk) before.disk_faults now.disk_faults
+  -- no call follows one that failed, and no more syncs are made than the entries take
   pub last : ended ≡ status.Disk → LastCallFails now.disk_counts
   pub syncs : SyncsWithin (run_syncs (all_syncs (loaded_commands loaded)))
       before.disk_counts now.disk_counts

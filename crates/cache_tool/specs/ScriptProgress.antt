@@ -2,6 +2,7 @@
 use Rattle.std.specs.Io.KnownBytes.{Appends, Consumes, IsAtEnd}
 use Rattle.std.specs.List.{AllByRecursion}
 use Rattle.std.specs.Prelude.{Bool, Err, IfSome, IsTrue, List, None, Ok, Option, Result, Some, [], drop, length, min, slice_get, take, suc, ℕ, ◌+◌, ◌++◌, ◌<◌, ◌∷◌, ◌≡◌, ◌≢◌, ◌≤◌, ◌⊎◌}
+use Rattle.cache_base.specs.Causes.{raised_by}
 use Rattle.cache_base.specs.declared.limits.TheConstants.{SCRIPT_MAX}
 use Rattle.cache_base.specs.declared.status.Status.{Status}
 use Rattle.cache_base.specs.declared.status.Status.TheVariants as status
@@ -27,7 +28,6 @@ use Rattle.cache_tool.specs.Right.{AreRight, LeadTo}
 use Rattle.cache_tool.specs.Script.{AreTaken, performed}
 use Rattle.cache_tool.specs.Statuses.{IsClosing, status_in}
 use Rattle.cache_tool.specs.Syncs.{SyncsFor}
-use Rattle.cache_tool.specs.Tally.{RoseBy}
 use Rattle.cache_tool.specs.Verbs.{CountsFaults, Reach, begun_of, SendsNextFront, TellsReplies}
 use Rattle.cache_tool.specs.World.{Progress}
 use Rattle.cache_tool.specs.declared.script.ScriptEnd.{ScriptEnd}
@@ -74,14 +74,14 @@ pub record SomePerformed (cs : List Command) (faults : List ℕ) (h : History) (
 pub record PerformsAll (cs : List Command) (faults : List ℕ) (before now : Progress) : Type 0 where
   pub each : (h : History) → KeepsTo before.session h → SomePerformed cs faults h before now
 
+-- the disk failed so often in between, and no more often
+abbrev pub FailedTimes : ℕ → Progress → Progress → Type 0
+FailedTimes times before now = now.disk_faults ≡ raised_by times before.disk_faults
+
 -- the numbers of the answers `fault` among those to the first commands, and that the disk failed as often
 pub record AreCounted (p : ℕ) (faults : List ℕ) (before now : Progress) : Type 0 where
   pub numbers : AreFaults p faults
-  pub counted : RoseBy (length faults) before.disk_faults now.disk_faults
-
--- where no answer is `fault` the disk did not fail
-abbrev pub TellsOfFaults : List ℕ → Progress → Progress → Type 0
-TellsOfFaults faults before now = faults ≡ [] → now.disk_faults ≡ before.disk_faults
+  pub counted : FailedTimes (length faults) before now
 
 -- One command more was begun, and failed: a part of its reply went out.
 pub record IsCutIn (cs : List Command) (faults : List ℕ) (c : Command) (m : Machine)
@@ -155,7 +155,6 @@ pub record HasPerformed (tells : Bool) (r : Reader) (before now : Progress) : Ty
   pub used : used_in r ≡ length (script_bytes commands)
   pub faults : List ℕ
   pub counts : AreCounted (length commands) faults before now
-  pub calm : TellsOfFaults faults before now
   pub performs : IsTrue tells → PerformsAll commands faults before now
   pub mark : IsTrue tells → ChangeMarkBut faults commands before now
   pub syncs : IsTrue tells → SyncsFor commands before.disk_counts now.disk_counts
@@ -174,25 +173,26 @@ pub record PerformsToEnd (tells : Bool) (e : ScriptEnd) (before now : Progress) 
   pub ends : EndsScript e before.source.left now.source.left commands
   pub faults : List ℕ
   pub counts : AreCounted (length commands) faults before now
-  pub calm : TellsOfFaults faults before now
   pub performs : IsTrue tells → PerformsAll commands faults before now
   pub mark : IsTrue tells → ChangeMarkBut faults commands before now
   pub syncs : IsTrue tells → SyncsFor commands before.disk_counts now.disk_counts
 
--- The line `fault` was cut: the disk failed once more than there are such answers, but did not fail for good.
+-- The line `fault` was cut: the disk failed once more than there are such answers, and not for good.
 pub record FailsInLine (tells : Bool) (cs : List Command) (faults : List ℕ) (f : StoreFault)
     (before now : Progress)
     : Type 0 where
   pub no_disk : f ≢ fault.Disk
-  pub rose : RoseBy (suc (length faults)) before.disk_faults now.disk_faults
+  pub counted : FailedTimes (suc (length faults)) before now
   pub each : IsTrue tells → FaultsAfter cs faults before now
   pub mark : IsTrue tells → ChangeMarkBut faults cs before now
 
--- A command failed in its reply: this is what it left, and where the disk did not end it, it did not fail in it.
+-- A command failed in its reply: this is what it left. Where the disk ended it, it failed once in it, and else it did
+-- not.
 pub record FailsInReply (tells : Bool) (cs : List Command) (faults : List ℕ) (c : Command)
     (f : StoreFault) (before now : Progress)
     : Type 0 where
-  pub calm : f ≢ fault.Disk → TellsOfFaults faults before now
+  pub disk : f ≡ fault.Disk → FailedTimes (suc (length faults)) before now
+  pub calm : f ≢ fault.Disk → FailedTimes (length faults) before now
   pub each : IsTrue tells → FailsAfter cs faults c f before now
   pub mark : IsTrue tells → ChangeMarkBut faults (cs ++ c ∷ []) before now
 
@@ -203,8 +203,7 @@ pub record FailsMidway (tells : Bool) (f : StoreFault) (before now : Progress) :
   pub front : IfSome before.source.left (λ bytes.
       (rest : List ℕ) × SpellsFront bytes (commands ++ last ∷ []) rest)
   pub faults : List ℕ
-  pub counts : AreCounted (length commands) faults before now
-  pub disk : f ≡ fault.Disk → RoseBy (suc (length faults)) before.disk_faults now.disk_faults
+  pub numbers : AreFaults (length commands) faults
   pub fails : FailsInReply tells commands faults last f before now
       ⊎ FailsInLine tells commands faults f before now
   pub syncs : IsTrue tells → SyncsFor (commands ++ last ∷ []) before.disk_counts now.disk_counts
@@ -274,6 +273,8 @@ pub record ScriptIsRun (h : History) (bytes : List ℕ) (cs : List Command) (end
   pub faults : List ℕ
   pub with_last : List ℕ
   pub counts : CountsFaults ended acked faults with_last before.disk_faults now.disk_faults
+  pub line_cut : with_last ≢ faults
+      → (acked < length cs) × ((ended ≡ status.Memory) ⊎ (ended ≡ status.Sink))
   pub is_done : DoneForKept before.session h.machine cs done with_last
   pub tells : TellsAcked h.machine bytes cs done ended acked faults with_last before now
   pub for_good : ended ≡ status.Disk → LastFails now.disk_counts

@@ -1,5 +1,5 @@
 -- What failed in a call, and how the source, the sink and the disk count it.
-use Rattle.std.specs.Prelude.{Bool, Err, IsTrue, None, Ok, Option, Result, Some, min, ℕ, ◌+◌, ◌-◌, ◌^◌, ◌≡◌, ◌≤◌}
+use Rattle.std.specs.Prelude.{Bool, Err, IsTrue, None, Ok, Option, Result, Some, ℕ, ◌≡◌, ◌≤◌}
 use Rattle.cache_base.specs.Causes.{HasCause, Rose}
 use Rattle.cache_base.specs.declared.status.Status.{Status}
 use Rattle.cache_base.specs.declared.status.Status.TheVariants as status
@@ -11,10 +11,6 @@ use Rattle.cache_tool.specs.declared.script.ScriptEnd.{ScriptEnd}
 use Rattle.cache_tool.specs.declared.script.ScriptEnd.TheVariants as ended
 use Rattle.disk_theory.specs.Calls.{Counts, StopsAtFault}
 use Rattle.disk_theory.specs.declared.disk.Disk.{Ghosts as OfDisk}
-
--- the count rose by so much, or stands at its end
-abbrev pub RoseBy : ℕ → ℕ → ℕ → Type 0
-RoseBy n before now = min (before + n) (2 ^ 64 - 1) ≤ now
 
 -- what failed, if anything did
 pub data Failure : Type 0 where

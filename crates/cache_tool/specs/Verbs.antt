@@ -1,7 +1,7 @@
 -- The result of each verb, for every machine at an opening on what stands.
 use Rattle.std.specs.Io.KnownBytes.{Appends, Keeps}
-use Rattle.std.specs.Prelude.{IfSome, IsSome, List, Option, Some, [], length, min, slice_get, suc, take, ℕ, ◌+◌, ◌++◌, ◌∷◌, ◌≡◌, ◌≢◌, ◌⊎◌}
-use Rattle.cache_base.specs.Causes.{HasCause, Rose}
+use Rattle.std.specs.Prelude.{IfSome, IsSome, List, Option, Some, [], length, min, slice_get, suc, take, ℕ, ◌+◌, ◌++◌, ◌<◌, ◌∷◌, ◌≡◌, ◌≢◌, ◌⊎◌}
+use Rattle.cache_base.specs.Causes.{CountsFailure, Rose, RoseOnce, raised_by}
 use Rattle.cache_base.specs.declared.status.Status.{Status}
 use Rattle.cache_base.specs.declared.status.Status.TheVariants as status
 use Rattle.cache_replies.specs.Answers.{outcome_of}
@@ -32,7 +32,6 @@ use Rattle.cache_tool.specs.Script.{AreTaken, bad_line, performed}
 use Rattle.cache_tool.specs.Statuses.{IsAnswer, IsClosing, status_of}
 use Rattle.cache_tool.specs.Staying.{EndsInUse, IsLeftUntrusted, StaysOverAll}
 use Rattle.cache_tool.specs.Syncs.{SyncsWithin, opening_syncs, run_syncs}
-use Rattle.cache_tool.specs.Tally.{RoseBy}
 use Rattle.cache_tool.specs.World.{Output, World, output_of}
 use Rattle.disk_theory.specs.Calls.{LastCallFails, LastFails, LastLookFails}
 use Rattle.disk_theory.specs.Sound.{IsQuiet}
@@ -127,7 +126,7 @@ pub record PrintsText (text : List ℕ) (ended : Status) (before now : Output) :
 -- The run did not begin: the store did not open, or what is done for `Resume` failed. Nothing is printed.
 pub record HasNotBegun (m : Machine) (ended : Status) (before now : Output) : Type 0 where
   pub failed : (ended ≡ status.Disk) ⊎ (ended ≡ status.Memory)
-  pub cause : HasCause (ended ≡ status.Disk) before.disk_faults now.disk_faults
+  pub cause : CountsFailure (ended ≡ status.Disk) before.disk_faults now.disk_faults
   -- no call of the disk follows one that failed
   pub last : ended ≡ status.Disk → LastCallFails now.disk_counts
   -- that one was a change or a sync, or a look of the opening or of what is done for `Resume`
@@ -162,24 +161,31 @@ pub record PrintsLast (m : Machine) (d : Command) (cs : List Command) (ended : S
   -- what is printed is its text
   pub text : PrintsText (reply_text (last_reply (step m d).next cs)) ended before now
   pub silent : ended ≡ status.Source → Keeps before.taken now.taken
+  -- one call of the disk failed, or none did
+  pub cause : CountsFailure (ended ≡ status.Disk) before.disk_faults now.disk_faults
   -- a look that failed before anything of a reply was out does not end it so
   pub for_good : ended ≡ status.Disk → StopsForGood (step m d).next cs before now
   pub leaves : LeavesDisk m (all_begun_none_acked m d cs) ended before.disk now.disk
+
+-- the store was closed with no command performed, and no change and no sync failed
+abbrev pub ClosesFaulted : Machine → Command → Output → Output → Type 0
+ClosesFaulted m d before now = LeavesDisk m (none_performed m d) status.No before.disk now.disk
+    × (now.disk_counts.failed ≡ before.disk_counts.failed)
 
 -- It began so, and then a look at the disk failed before anything of the reply was said: the line that tells it is
 -- printed, or a part of it where the sink failed or memory ran out, and no command was performed.
 pub record PrintsFault (m : Machine) (d : Command) (ended : Status) (before now : Output)
     : Type 0 where
   pub failed : (ended ≡ status.Disk) ⊎ (ended ≡ status.Memory)
-  pub rose : Rose before.disk_faults now.disk_faults
   pub part : IsPart before.taken now.taken fault_line
   pub said : ended ≡ status.Disk → Appends before.taken now.taken fault_line
       ⊎ Rose before.sink_faults now.sink_faults
   pub leaves : LeavesDisk m (none_performed m d) ended before.disk now.disk
-  -- the store was closed, unless the disk failed once more or memory ran out
-  pub closed : ended ≡ status.Disk
-      → LeavesDisk m (none_performed m d) status.No before.disk now.disk
-      ⊎ RoseBy 2 before.disk_faults now.disk_faults
+  pub mark : LeavesMark [] before.disk now.disk
+  -- no other call failed, and the store was closed unless memory ran out; or a change or a sync of the closing did
+  pub closed : (RoseOnce before.disk_faults now.disk_faults
+      × (ended ≡ status.Disk → ClosesFaulted m d before now))
+      ⊎ ((now.disk_faults ≡ raised_by 2 before.disk_faults) × LastFails now.disk_counts)
 
 -- a clearing, in an honest directory: a crash leaves nothing of it, or its mark, or all of it
 abbrev pub ClearsWhole : Machine → Command → Command → State → State → Type 0
@@ -233,6 +239,11 @@ pub record TellsReplies (m : Machine) (bytes : List ℕ) (cs done : List Command
   pub script : ended ≡ status.Script → out ≡ replies_but m done faults ++ bad_line (length cs + 1)
   -- with a source that failed the answers to the commands that it gave whole
   pub source : ended ≡ status.Source → out ≡ replies_but m (take acked done) faults
+  -- with a sink that failed not all of them, nor that line whole
+  pub cut : ended ≡ status.Sink
+      → length out < length (replies_but m done with_last ++ bad_line (length cs + 1))
+  pub no_line_cut : ended ≡ status.Sink → ScriptSpells bytes cs
+      → length out < length (replies_but m done with_last)
 
 -- the first commands are answered, and of the reply to the next one all is out up to the end of a first chunk
 pub record SendsNextFront (m : Machine) (done : List Command) (acked : ℕ) (faults : List ℕ)
@@ -244,17 +255,20 @@ pub record SendsNextFront (m : Machine) (done : List Command) (acked : ℕ) (fau
   pub answers : Appends before mid (replies_but m (take acked done) faults)
   pub front : SendsReplyFront next (after m (unfaulted faults (take acked done))) mid now
 
--- the numbers of the commands that are answered `fault`, by how often the disk failed: so often at least, and once more
--- where the line was cut, or where the disk failed for good
+-- the numbers of the commands that are answered `fault`, and maybe of the next one, whose line was cut. The disk failed
+-- once for each of them, and once more where it ended the run; no failure is without such an answer.
 pub record CountsFaults (ended : Status) (acked : ℕ) (faults with_last : List ℕ) (before now : ℕ)
     : Type 0 where
   pub numbers : AreFaults acked faults
-  pub counted : RoseBy (length faults) before now
-  pub last : (with_last ≡ faults)
-      ⊎ ((with_last ≡ with_next acked faults) × RoseBy (suc (length faults)) before now)
-  pub disk : ended ≡ status.Disk → RoseBy (suc (length faults)) before now
-  -- and where none was to be answered so, and the disk did not end the run, it did not fail
-  pub calm : with_last ≡ [] → ended ≢ status.Disk → now ≡ before
+  pub last : (with_last ≡ faults) ⊎ (with_last ≡ with_next acked faults)
+  pub counted : ended ≢ status.Disk → now ≡ raised_by (length with_last) before
+  pub disk : ended ≡ status.Disk → now ≡ raised_by (suc (length with_last)) before
+
+-- there is a command after those that are answered, and its line was cut, where memory ran out or the sink failed
+abbrev pub MayBeCut : List Command → ℕ → Status → World → World → Type 0
+MayBeCut cs acked ended before now = (acked < length cs)
+    × ((ended ≡ status.Memory)
+    ⊎ (((ended ≡ status.Sink) ⊎ (ended ≡ status.Disk)) × Rose before.sink_faults now.sink_faults))
 
 -- These are the commands of a script, and what was done for them after what was done for `Resume`: some are
 -- acknowledged, and one more may have begun. A command that is answered `fault` is left out, as if it had not been
@@ -268,6 +282,7 @@ pub record PrintsReplies (m : Machine) (d : Command) (bytes : List ℕ) (cs : Li
   pub faults : List ℕ
   pub with_last : List ℕ
   pub counts : CountsFaults ended acked faults with_last before.disk_faults now.disk_faults
+  pub line_cut : with_last ≢ faults → MayBeCut cs acked ended before now
   pub are_done : AreDoneFor (Honest (standing before.disk)) (step m d).next
       (unfaulted with_last cs) (unfaulted with_last done)
   -- all of them are acknowledged, where none failed

@@ -4,7 +4,7 @@ ghost use Rattle.cache_tool.specs.Syncs.{run_syncs};
 ghost use Rattle.cache_store.specs.Syncs.{writing_syncs};
 ghost use Rattle.std.specs.List.{range_with_len};
 ghost use Rattle.std.specs.Prelude.{◌≡◌, ◌≢◌, ◌≤◌, ◌<◌, ◌+◌, ◌++◌, ◌*◌, ◌%◌, ◌^◌, ◌⊎◌, [], ◌∷◌, codes, length, map, Err, IfOk, IsTrue, Ok, OnOk, ℕ};
-ghost use Rattle.cache_base.specs.Causes.{HasCause, Rose};
+ghost use Rattle.cache_base.specs.Causes.{CountsFailure, Rose};
 ghost use Rattle.cache_store.specs.Open.{IsOpen};
 ghost use Rattle.cache_replies.specs.Saying.{TakesMore};
 ghost use Rattle.cache_store.specs.Session.{session};
@@ -274,7 +274,7 @@ pub(crate) fn fill<D: Disk, K: Sink>(
     ensures syncs { SyncsAtMost D.Disk (run_syncs (count + writing_syncs)) disk.old disk.new }
     ensures sink { result ≡ Status.Sink → Rose (K.faults sink.old) (K.faults sink.new) }
     ensures calm { IsAnswer result → K.faults sink.new ≡ K.faults sink.old }
-    ensures disk { HasCause (result ≡ Status.Disk) (D.faults disk.old) (D.faults disk.new) }
+    ensures disk { CountsFailure (result ≡ Status.Disk) (D.faults disk.old) (D.faults disk.new) }
 {
     let mut store = match begin(alloc, now, disk) {
         Ok(store) => store,

@@ -3,7 +3,7 @@
 ghost use Rattle.cache_tool.specs.Syncs.{as_made, item_syncs};
 ghost use Rattle.std.specs.Prelude.{◌≡◌, ◌≢◌, ◌≤◌, ◌<◌, ◌⊎◌, ◌++◌, [], ℕ, Err, IfOk, IsTrue, None, Ok, OnOk, Some, suc};
 ghost use Rattle.std.specs.Io.KnownBytes.{Appends, IsAtEnd};
-ghost use Rattle.cache_base.specs.Causes.{HasCause, Rose};
+ghost use Rattle.cache_base.specs.Causes.{CountsFailure, HasCause, Rose};
 ghost use Rattle.cache_export.specs.Parts.{Part};
 ghost use Rattle.cache_export.specs.Reader.{used_in};
 ghost use Rattle.cache_store.specs.Open.{IsOpen};
@@ -278,7 +278,7 @@ pub(crate) fn load<D: Disk, S: Source, K: Sink>(
     ensures sink { result ≡ Status.Sink → Rose (K.faults sink.old) (K.faults sink.new) }
     ensures calm { IsSaid result →
         (S.faults source.new ≡ S.faults source.old) × (K.faults sink.new ≡ K.faults sink.old) }
-    ensures disk { HasCause (result ≡ Status.Disk) (D.faults disk.old) (D.faults disk.new) }
+    ensures disk { CountsFailure (result ≡ Status.Disk) (D.faults disk.old) (D.faults disk.new) }
 {
     let mut store = match begin(alloc, now, disk) {
         Ok(store) => store,

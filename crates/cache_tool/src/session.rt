@@ -3,7 +3,7 @@
 ghost use Rattle.cache_tool.specs.Syncs.{ending_syncs, opening_syncs};
 ghost use Rattle.std.specs.Prelude.{◌≡◌, ◌≢◌, ◌⊎◌, ◌≤◌, Err, IfOk, IsTrue, OnErr, false};
 ghost use Rattle.std.specs.Io.KnownBytes.{Appends};
-ghost use Rattle.cache_base.specs.Causes.{HasCause, Rose};
+ghost use Rattle.cache_base.specs.Causes.{CountsFailure, Rose, RoseOnce};
 ghost use Rattle.cache_store.specs.Faults.{ending};
 ghost use Rattle.cache_store.specs.IndexCalls.{ReadsEntriesOf};
 ghost use Rattle.cache_store.specs.Open.{IsOpen, LeavesOpen};
@@ -93,7 +93,7 @@ pub(crate) fn end<D: Disk>(store: Store, came: Result<Status, StoreFault>, disk:
     ensures stops { IsTrue D.tells → StopsAtFault (D.counts disk.old) (D.counts disk.new) }
     ensures syncs { SyncsAtMost D.Disk ending_syncs disk.old disk.new }
     ensures cause { IsClosing (status_in came) →
-        HasCause (result ≡ Status.Disk) (D.faults disk.old) (D.faults disk.new) }
+        CountsFailure (result ≡ Status.Disk) (D.faults disk.old) (D.faults disk.new) }
     ensures last { IsClosing (status_in came) → result ≡ Status.Disk → IsTrue D.tells →
         LastFails (D.counts disk.new) }
 {
@@ -129,9 +129,11 @@ pub(crate) fn end_faulted<D: Disk, K: Sink>(mut store: Store, sink: &mut K, disk
     ensures failed { (result ≡ Status.Disk) ⊎ (result ≡ Status.Memory) }
     ensures ends { IsTrue D.tells →
         EndsSession result (session D.Disk store disk.old) (D.state disk.new) }
-    ensures closed { result ≡ Status.Disk →
-        (IsTrue D.tells → EndsSession Status.No (session D.Disk store disk.old) (D.state disk.new))
-        ⊎ Rose (D.faults disk.old) (D.faults disk.new) }
+    ensures closed { ((D.faults disk.new ≡ D.faults disk.old) × (result ≡ Status.Disk → IsTrue D.tells →
+        EndsSession Status.No (session D.Disk store disk.old) (D.state disk.new)
+        × ((D.counts disk.new).failed ≡ (D.counts disk.old).failed)))
+        ⊎ (RoseOnce (D.faults disk.old) (D.faults disk.new)
+        × (IsTrue D.tells → LastFails (D.counts disk.new))) }
     ensures part { IsPart (K.taken sink.old) (K.taken sink.new) fault_line }
     ensures said { result ≡ Status.Disk → Appends (K.taken sink.old) (K.taken sink.new) fault_line
         ⊎ Rose (K.faults sink.old) (K.faults sink.new) }

@@ -1,7 +1,7 @@
 //! A disk in memory.
 
 ghost use Rattle.std.specs.Prelude.{◌≡◌, ◌≤◌, ◌-◌, ◌^◌, ◌↔◌, if◌then◌else◌, length, IfOk, OnOk, OnErr, IsTrue, IsErrOf, MatchBool};
-ghost use Rattle.cache_base.specs.Causes.{one_more, HasCause, Rose};
+ghost use Rattle.cache_base.specs.Causes.{one_more, CountsFailure, RoseOnce};
 ghost use Rattle.disk_theory.specs.Calls.{counted_look, counted_read, no_counts};
 ghost use Rattle.disk_theory.specs.declared.disk.DiskFault.TheVariants.{Failed};
 
@@ -187,7 +187,7 @@ impl MemDisk {
         ensures counts { counts_in self.new
             ≡ counted_read (look_answer result) place.now (counts_in self.old) }
         ensures later { self.old.faults ≤ self.new.faults }
-        ensures faults { MatchBool result (Rose self.old.faults self.new.faults)
+        ensures faults { MatchBool result (RoseOnce self.old.faults self.new.faults)
             (self.new.faults ≡ self.old.faults) }
     {
         let fails = self.begin();
@@ -207,7 +207,7 @@ impl MemDisk {
         ensures table { self.new.table ≡ self.old.table }
         ensures counts { counts_in self.new ≡ counted_look (look_answer result) (counts_in self.old) }
         ensures later { self.old.faults ≤ self.new.faults }
-        ensures faults { MatchBool result (Rose self.old.faults self.new.faults)
+        ensures faults { MatchBool result (RoseOnce self.old.faults self.new.faults)
             (self.new.faults ≡ self.old.faults) }
     {
         let fails = self.begin();
@@ -230,7 +230,7 @@ impl MemDisk {
         ensures entry_reads { self.new.entry_reads ≡ self.old.entry_reads }
         ensures syncs { self.new.syncs ≡ self.old.syncs }
         ensures last_sync { self.new.last_sync ≡ self.old.last_sync }
-        ensures cause { HasCause (IsErrOf result DiskFault.Failed) self.old.faults self.new.faults }
+        ensures cause { CountsFailure (IsErrOf result DiskFault.Failed) self.old.faults self.new.faults }
     {
         if fails {
             self.failed_change = self.calls;
@@ -251,7 +251,7 @@ impl MemDisk {
         ensures syncs { self.new.syncs ≡ self.old.syncs }
         ensures last_sync { self.new.last_sync ≡ self.old.last_sync }
         ensures later { self.old.faults ≤ self.new.faults }
-        ensures rose { Rose self.old.faults self.new.faults }
+        ensures rose { RoseOnce self.old.faults self.new.faults }
     {
         self.failed_sync = self.calls;
         self.faults = self.faults.saturating_add(1);

@@ -1,6 +1,6 @@
 -- How an answer is tied to what a disk counts.
 use Rattle.std.specs.Prelude.{Err, IsTrue, Ok, Result, ℕ, ◌+◌, ◌≡◌, ◌≤◌}
-use Rattle.cache_base.specs.Causes.{HasCause}
+use Rattle.cache_base.specs.Causes.{CountsFailure}
 use Rattle.disk_theory.specs.Calls.{LastCallFails, LastFails, LastLookFails, StopsAtFault}
 use Rattle.disk_theory.specs.declared.disk.Disk.{Ghosts}
 use Rattle.disk_theory.specs.declared.disk.DiskFault.{DiskFault}
@@ -37,7 +37,7 @@ SyncsAtMost D most before now = IsTrue D.tells → (D.counts now).syncs ≤ (D.c
 pub record Accounts {Self : _} (D : Ghosts Self) (answer : Ending) (most : ℕ) (before now : Self)
     : Type 0 where
   -- a fault is answered only where the count of faults rose, and otherwise the count is the same
-  pub cause : HasCause (answer ≡ Ending.OneFailed) (D.faults before) (D.faults now)
+  pub cause : CountsFailure (answer ≡ Ending.OneFailed) (D.faults before) (D.faults now)
   -- where none is answered and memory sufficed, no change and no sync failed
   pub went_on : answer ≡ Ending.NoneFailed → IsTrue D.tells
       → (D.counts now).failed ≡ (D.counts before).failed
@@ -50,7 +50,7 @@ pub record Accounts {Self : _} (D : Ghosts Self) (answer : Ending) (most : ℕ) 
 -- the call only looked: the disk holds the same, nothing was synced, no change and no sync failed, and the faults are
 -- accounted for
 pub record Looks {Self : _} (D : Ghosts Self) (answer : Ending) (before now : Self) : Type 0 where
-  pub cause : HasCause (answer ≡ Ending.OneFailed) (D.faults before) (D.faults now)
+  pub cause : CountsFailure (answer ≡ Ending.OneFailed) (D.faults before) (D.faults now)
   pub state : IsTrue D.tells → D.state now ≡ D.state before
   pub no_change : IsTrue D.tells → (D.counts now).failed ≡ (D.counts before).failed
   -- where a look failed no call follows

@@ -2,7 +2,7 @@
 
 ghost use Rattle.std.specs.Prelude.{◌≡◌, ◌≢◌, ◌+◌, ◌-◌, ◌^◌, ◌≤◌, ◌++◌, ℕ, Bool, List, length, drop, IfOk, OnOk, IsTrue, IsSome, IsErrOf, Option};
 ghost use Rattle.std.specs.Option.{option_map};
-ghost use Rattle.cache_base.specs.Causes.{HasCause};
+ghost use Rattle.cache_base.specs.Causes.{CountsFailure};
 ghost use Rattle.cache_base.specs.Names.{AreSorted};
 ghost use Rattle.disk_theory.specs.State.{State, standing, part_of, created, renamed, removed, wrote, settled};
 ghost use Rattle.disk_theory.specs.State.Write.{End, Patch};
@@ -64,7 +64,7 @@ pub trait Disk {
         ensures state { IsTrue tells →
             state self.new ≡ if_ok result (settled (state self.old)) (state self.old) }
         ensures counts { IsTrue tells → counts self.new ≡ counted_sync result (counts self.old) }
-        ensures cause { HasCause (IsErrOf result DiskFault.Failed)
+        ensures cause { CountsFailure (IsErrOf result DiskFault.Failed)
             (faults self.old) (faults self.new) };
 
     /// The length, in bytes, of the file at the place, or none where no file stands there.
@@ -74,7 +74,7 @@ pub trait Disk {
         ensures state { IsTrue tells → state self.new ≡ state self.old }
         ensures counts { IsTrue tells → counts self.new ≡ counted_read result place.now
             (counts self.old) }
-        ensures cause { HasCause (IsErrOf result DiskFault.Failed)
+        ensures cause { CountsFailure (IsErrOf result DiskFault.Failed)
             (faults self.old) (faults self.new) };
 
     /// Fills the buffer's beginning with the bytes of the file from the offset `from` on, as far as the file goes, and
@@ -88,7 +88,7 @@ pub trait Disk {
         ensures state { IsTrue tells → state self.new ≡ state self.old }
         ensures counts { IsTrue tells → counts self.new ≡ counted_read result place.now
             (counts self.old) }
-        ensures cause { HasCause (IsErrOf result DiskFault.Failed)
+        ensures cause { CountsFailure (IsErrOf result DiskFault.Failed)
             (faults self.old) (faults self.new) };
 
     /// A new empty file takes the place. A file that stood there loses its name.
@@ -96,7 +96,7 @@ pub trait Disk {
         ensures state { IsTrue tells →
             state self.new ≡ if_done result (created place.now (state self.old)) (state self.old) }
         ensures counts { IsTrue tells → counts self.new ≡ counted_change result (counts self.old) }
-        ensures cause { HasCause (IsErrOf result DiskFault.Failed)
+        ensures cause { CountsFailure (IsErrOf result DiskFault.Failed)
             (faults self.old) (faults self.new) };
 
     /// Writes the bytes at the offset `from`. The file then ends after them.
@@ -106,7 +106,7 @@ pub trait Disk {
         ensures state { IsTrue tells → state self.new ≡ if_done result
             (wrote place.now (End from bytes.now) (state self.old)) (state self.old) }
         ensures counts { IsTrue tells → counts self.new ≡ counted_change result (counts self.old) }
-        ensures cause { HasCause (IsErrOf result DiskFault.Failed)
+        ensures cause { CountsFailure (IsErrOf result DiskFault.Failed)
             (faults self.old) (faults self.new) };
 
     /// Writes the bytes at the offset `from` inside the file, whose length stays.
@@ -117,7 +117,7 @@ pub trait Disk {
         ensures state { IsTrue tells → state self.new ≡ if_done result
             (wrote place.now (Patch from bytes.now) (state self.old)) (state self.old) }
         ensures counts { IsTrue tells → counts self.new ≡ counted_change result (counts self.old) }
-        ensures cause { HasCause (IsErrOf result DiskFault.Failed)
+        ensures cause { CountsFailure (IsErrOf result DiskFault.Failed)
             (faults self.old) (faults self.new) };
 
     /// The file of the first place takes the second. A file that stood there loses its name.
@@ -127,7 +127,7 @@ pub trait Disk {
         ensures state { IsTrue tells → state self.new
             ≡ if_done result (renamed from.now to.now (state self.old)) (state self.old) }
         ensures counts { IsTrue tells → counts self.new ≡ counted_change result (counts self.old) }
-        ensures cause { HasCause (IsErrOf result DiskFault.Failed)
+        ensures cause { CountsFailure (IsErrOf result DiskFault.Failed)
             (faults self.old) (faults self.new) };
 
     /// Removes the file at the place.
@@ -136,7 +136,7 @@ pub trait Disk {
         ensures state { IsTrue tells →
             state self.new ≡ if_done result (removed place.now (state self.old)) (state self.old) }
         ensures counts { IsTrue tells → counts self.new ≡ counted_change result (counts self.old) }
-        ensures cause { HasCause (IsErrOf result DiskFault.Failed)
+        ensures cause { CountsFailure (IsErrOf result DiskFault.Failed)
             (faults self.old) (faults self.new) };
 
     /// The list becomes the names under which entry files stand, rising by their bytes.
@@ -145,7 +145,7 @@ pub trait Disk {
         ensures names { OnOk result (IsTrue tells → AreEntries (state self.old) out.new) }
         ensures state { IsTrue tells → state self.new ≡ state self.old }
         ensures counts { IsTrue tells → counts self.new ≡ counted_look result (counts self.old) }
-        ensures cause { HasCause (IsErrOf result DiskFault.Failed)
+        ensures cause { CountsFailure (IsErrOf result DiskFault.Failed)
             (faults self.old) (faults self.new) };
 
     /// The list becomes the numbers under which files of doomed entries stand, rising.
@@ -154,7 +154,7 @@ pub trait Disk {
         ensures numbers { OnOk result (IsTrue tells → AreDoomed (state self.old) out.new) }
         ensures state { IsTrue tells → state self.new ≡ state self.old }
         ensures counts { IsTrue tells → counts self.new ≡ counted_look result (counts self.old) }
-        ensures cause { HasCause (IsErrOf result DiskFault.Failed)
+        ensures cause { CountsFailure (IsErrOf result DiskFault.Failed)
             (faults self.old) (faults self.new) };
 
     /// No file stands at two places, and each write lay within its file.

@@ -1,6 +1,6 @@
 -- Looks at a disk, one after another.
 use Rattle.std.proofs.Common.{ℕ, ◌+◌, ◌≡◌, ◌≤◌, ◌∙◌, Err, IsErrAnd, Ok, Result, arith, refl, subst, sym}
-use Rattle.cache_base.specs.Causes.{HasCause}
+use Rattle.cache_base.specs.Causes.{CountsFailure}
 use Rattle.disk_theory.specs.Account.{Ending, Looks, ending, fault_ending}
 use Rattle.disk_theory.specs.Calls.{Counts, counted_read}
 use Rattle.disk_theory.specs.declared.disk.Disk.{Ghosts}
@@ -33,7 +33,7 @@ one_look answer place before now is = subst (λ (c : Counts). LooksAtMost 1 befo
 -- after a call that only looked and did not fail, another one
 pub looks_on : {Self : _} (D : Ghosts Self) (e : Ending) (a b c : Self) → Looks D Ending.NoneFailed a b → Looks D e b c → Looks D e a c
 looks_on D e a b c first more = record {
-  cause = subst (λ n. HasCause (e ≡ Ending.OneFailed) n (D.faults c)) (first.cause.kept (λ failed. cc)) more.cause;
+  cause = subst (λ n. CountsFailure (e ≡ Ending.OneFailed) n (D.faults c)) (first.cause.kept (λ failed. cc)) more.cause;
   state = λ told. more.state told ∙ first.state told;
   no_change = λ told. more.no_change told ∙ first.no_change told;
   last = more.last;

@@ -1,6 +1,6 @@
 -- The account of calls in sequence, and of one whose answer is handed on.
 use Rattle.std.proofs.Common.{ℕ, ◌+◌, ◌≤◌, ◌≡◌, ◌⊎◌, ◌∙◌, inl, IsTrue, Result, Ok, Err, IsErrAnd, ap, refl, sym, subst, arith}
-use Rattle.cache_base.specs.Causes.{HasCause}
+use Rattle.cache_base.specs.Causes.{CountsFailure}
 use Rattle.disk_theory.specs.Account.{Accounts, Ending, FailsInChange, IsCalm, Looks, OnlyChanges, SyncsAtMost, no_sync, ending as disk_ending, fault_ending as disk_fault_ending}
 use Rattle.disk_theory.specs.Calls.{FailsLast}
 use Rattle.disk_theory.specs.declared.disk.Disk.{Ghosts}
@@ -35,7 +35,7 @@ calm_then D {n} a b c = calm_sum D n a b c (omega arith)
 
 pub accounts_sum : {Self : _} (D : Ghosts Self) (e : Ending) {n m : ℕ} (all : ℕ) (a b c : Self) → n + m ≤ all → Accounts D Ending.NoneFailed n a b → Accounts D e m b c → Accounts D e all a c
 accounts_sum D e {n} {m} all a b c few first last = record {
-  cause = subst (λ k. HasCause (e ≡ Ending.OneFailed) k (D.faults c)) (first.cause.kept (λ failed. cc)) last.cause;
+  cause = subst (λ k. CountsFailure (e ≡ Ending.OneFailed) k (D.faults c)) (first.cause.kept (λ failed. cc)) last.cause;
   went_on = λ none told. last.went_on none told ∙ first.went_on refl told;
   stops = λ told. subst (λ failed. ((D.counts c).failed ≡ failed) ⊎ FailsLast failed (D.counts c)) (first.went_on refl told) (last.stops told);
   last = last.last;

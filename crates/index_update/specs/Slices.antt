@@ -1,6 +1,6 @@
 -- A slice of an update: some first names of the rest are read, and taken off.
 use Rattle.std.specs.Prelude.{IsTrue, List, [], ℕ, ◌*◌, ◌≡◌, ◌≢◌}
-use Rattle.cache_base.specs.Causes.{HasCause}
+use Rattle.cache_base.specs.Causes.{CountsFailure}
 use Rattle.cache_base.specs.declared.name.Name.{Name}
 use Rattle.disk_theory.specs.Account.{Ending}
 use Rattle.disk_theory.specs.Account.Ending.{OneFailed}
@@ -23,7 +23,7 @@ pub record ReadsSlice (es : Entries) (first rest left : List Name) (old new : Kn
 -- faults are accounted for
 pub record LooksAtNames {Self : _} (D : Ghosts Self) (answer : Ending) (names : ℕ)
     (before now : Self) : Type 0 where
-  pub cause : HasCause (answer ≡ OneFailed) (D.faults before) (D.faults now)
+  pub cause : CountsFailure (answer ≡ OneFailed) (D.faults before) (D.faults now)
   pub state : IsTrue D.tells → D.state now ≡ D.state before
   pub looks : IsTrue D.tells → LooksAtMost (meta_looks * names) (D.counts before) (D.counts now)
   -- where a look failed no call follows

@@ -1,7 +1,7 @@
 //! The files of some entries are read, and the records set to what stands there.
 
 ghost use Rattle.std.specs.Prelude.{◌≡◌, ◌*◌, IfOk, IfSome, IsErrOf, IsTrue, OnErr, OnOk, length};
-ghost use Rattle.cache_base.specs.Causes.{HasCause};
+ghost use Rattle.cache_base.specs.Causes.{CountsFailure};
 ghost use Rattle.disk_theory.specs.Account.{Ending, ending};
 ghost use Rattle.disk_theory.specs.Calls.{LastLookFails};
 ghost use Rattle.disk_theory.specs.declared.disk.DiskFault.TheVariants.{Failed};
@@ -43,7 +43,7 @@ fn read_record<D: Disk>(
     ensures state { IsTrue D.tells → D.state disk.new ≡ D.state disk.old }
     ensures looks { IsTrue D.tells →
         LooksAtMost meta_looks (D.counts disk.old) (D.counts disk.new) }
-    ensures cause { HasCause (IsErrOf result DiskFault.Failed)
+    ensures cause { CountsFailure (IsErrOf result DiskFault.Failed)
         (D.faults disk.old) (D.faults disk.new) }
     ensures last { ending result ≡ Ending.OneFailed → IsTrue D.tells →
         LastLookFails (D.counts disk.new) }
@@ -69,7 +69,7 @@ fn read_one<D: Disk>(
     ensures state { IsTrue D.tells → D.state disk.new ≡ D.state disk.old }
     ensures looks { IsTrue D.tells →
         LooksAtMost meta_looks (D.counts disk.old) (D.counts disk.new) }
-    ensures cause { HasCause (IsErrOf result DiskFault.Failed)
+    ensures cause { CountsFailure (IsErrOf result DiskFault.Failed)
         (D.faults disk.old) (D.faults disk.new) }
     ensures last { ending result ≡ Ending.OneFailed → IsTrue D.tells →
         LastLookFails (D.counts disk.new) }
@@ -97,7 +97,7 @@ pub(crate) fn read_each<D: Disk>(
     ensures state { IsTrue D.tells → D.state disk.new ≡ D.state disk.old }
     ensures looks { IsTrue D.tells →
         LooksAtMost (meta_looks * length names.now) (D.counts disk.old) (D.counts disk.new) }
-    ensures cause { HasCause (IsErrOf result DiskFault.Failed)
+    ensures cause { CountsFailure (IsErrOf result DiskFault.Failed)
         (D.faults disk.old) (D.faults disk.new) }
     ensures last { ending result ≡ Ending.OneFailed → IsTrue D.tells →
         LastLookFails (D.counts disk.new) }

@@ -1,4 +1,5 @@
 pub mod SlotLaws
+pub mod Counted
 pub mod OverLaws
 pub mod LayerLaws
 pub mod ListLaws

@@ -2,7 +2,7 @@
 
 ghost use Rattle.std.specs.Prelude.{◌≡◌, ◌⊎◌, ◌↔◌, ℕ, ◌≤◌, ◌^◌, ◌++◌, [], Contains, IfErr, IfOk, IsSome, IsErrOf, IsOk, IsTrue, None, OnErr, OnOk, Some, drop, false, length};
 ghost use Rattle.std.specs.Option.{option_map};
-ghost use Rattle.cache_base.specs.Causes.{HasCause, Rose};
+ghost use Rattle.cache_base.specs.Causes.{CountsFailure, Rose};
 ghost use Rattle.cache_base.specs.declared.name.Name.{Name as NameValue};
 ghost use Rattle.cache_base.specs.Names.{AreSorted};
 ghost use Rattle.disk_theory.specs.Calls.{HoldsPart, MayWriteAt, no_counts};
@@ -49,7 +49,7 @@ impl<D: Disk + Drop> OverlayDisk<D> {
     fn answer<T>(&mut self, outcome: Result<T, DiskFault>) -> Result<T, DiskFault>
         ensures same { result ≡ outcome }
         ensures layer { self.new.layer ≡ self.old.layer }
-        ensures cause { HasCause (IsErrOf result DiskFault.Failed) self.old.faults self.new.faults }
+        ensures cause { CountsFailure (IsErrOf result DiskFault.Failed) self.old.faults self.new.faults }
     {
         match outcome {
             Ok(value) => Ok(value),
@@ -94,7 +94,7 @@ impl<D: Disk + Drop> Disk for OverlayDisk<D> {
         ensures fault { IsErrOf result DiskFault.Failed →
             Rose (D.faults (below self.old)) (D.faults (below self.new))
             ⊎ (IsTrue D.tells → 2 ^ 64 ≤ length (held (shown D.Disk self.old place.now))) }
-        ensures cause { HasCause (IsErrOf result DiskFault.Failed) self.old.faults self.new.faults }
+        ensures cause { CountsFailure (IsErrOf result DiskFault.Failed) self.old.faults self.new.faults }
     {
         let outcome = self.layer.size(place);
         self.answer(outcome)
@@ -109,7 +109,7 @@ impl<D: Disk + Drop> Disk for OverlayDisk<D> {
         ensures below { OnlyLooks D.Disk self.old self.new }
         ensures fault { IsErrOf result DiskFault.Failed →
             Rose (D.faults (below self.old)) (D.faults (below self.new)) }
-        ensures cause { HasCause (IsErrOf result DiskFault.Failed) self.old.faults self.new.faults }
+        ensures cause { CountsFailure (IsErrOf result DiskFault.Failed) self.old.faults self.new.faults }
     {
         let outcome = self.layer.read(place, from, buf);
         self.answer(outcome)
@@ -121,7 +121,7 @@ impl<D: Disk + Drop> Disk for OverlayDisk<D> {
         ensures err { OnErr result (Changes D.Disk SameFiles self.old self.new) }
         ensures memory { IfErr result (λ fault. fault ≡ Memory) }
         ensures below { below self.new ≡ below self.old }
-        ensures cause { HasCause (IsErrOf result DiskFault.Failed) self.old.faults self.new.faults }
+        ensures cause { CountsFailure (IsErrOf result DiskFault.Failed) self.old.faults self.new.faults }
     {
         let outcome = self.layer.create(place);
         self.answer(outcome)
@@ -137,7 +137,7 @@ impl<D: Disk + Drop> Disk for OverlayDisk<D> {
         ensures fault { IsErrOf result DiskFault.Failed →
             Rose (D.faults (below self.old)) (D.faults (below self.new))
             ⊎ (IsTrue D.tells → ¬ (MayWriteAt (shown D.Disk self.old place.now) from)) }
-        ensures cause { HasCause (IsErrOf result DiskFault.Failed) self.old.faults self.new.faults }
+        ensures cause { CountsFailure (IsErrOf result DiskFault.Failed) self.old.faults self.new.faults }
     {
         let outcome = self.layer.write_end(place, from, bytes);
         self.answer(outcome)
@@ -155,7 +155,7 @@ impl<D: Disk + Drop> Disk for OverlayDisk<D> {
             Rose (D.faults (below self.old)) (D.faults (below self.new))
             ⊎ (IsTrue D.tells →
             ¬ (HoldsPart (shown D.Disk self.old place.now) from (length bytes.now))) }
-        ensures cause { HasCause (IsErrOf result DiskFault.Failed) self.old.faults self.new.faults }
+        ensures cause { CountsFailure (IsErrOf result DiskFault.Failed) self.old.faults self.new.faults }
     {
         let outcome = self.layer.patch(place, from, bytes);
         self.answer(outcome)
@@ -168,7 +168,7 @@ impl<D: Disk + Drop> Disk for OverlayDisk<D> {
         ensures fault { IsErrOf result DiskFault.Failed →
             Rose (D.faults (below self.old)) (D.faults (below self.new))
             ⊎ (IsTrue D.tells → shown D.Disk self.old from.now ≡ None) }
-        ensures cause { HasCause (IsErrOf result DiskFault.Failed) self.old.faults self.new.faults }
+        ensures cause { CountsFailure (IsErrOf result DiskFault.Failed) self.old.faults self.new.faults }
     {
         let outcome = self.layer.rename(from, to);
         self.answer(outcome)
@@ -181,7 +181,7 @@ impl<D: Disk + Drop> Disk for OverlayDisk<D> {
         ensures fault { IsErrOf result DiskFault.Failed →
             Rose (D.faults (below self.old)) (D.faults (below self.new))
             ⊎ (IsTrue D.tells → shown D.Disk self.old place.now ≡ None) }
-        ensures cause { HasCause (IsErrOf result DiskFault.Failed) self.old.faults self.new.faults }
+        ensures cause { CountsFailure (IsErrOf result DiskFault.Failed) self.old.faults self.new.faults }
     {
         let outcome = self.layer.remove(place);
         self.answer(outcome)
@@ -195,7 +195,7 @@ impl<D: Disk + Drop> Disk for OverlayDisk<D> {
         ensures below { OnlyLooks D.Disk self.old self.new }
         ensures fault { IsErrOf result DiskFault.Failed →
             Rose (D.faults (below self.old)) (D.faults (below self.new)) }
-        ensures cause { HasCause (IsErrOf result DiskFault.Failed) self.old.faults self.new.faults }
+        ensures cause { CountsFailure (IsErrOf result DiskFault.Failed) self.old.faults self.new.faults }
     {
         let outcome = self.layer.entries(out);
         self.answer(outcome)
@@ -209,7 +209,7 @@ impl<D: Disk + Drop> Disk for OverlayDisk<D> {
         ensures below { OnlyLooks D.Disk self.old self.new }
         ensures fault { IsErrOf result DiskFault.Failed →
             Rose (D.faults (below self.old)) (D.faults (below self.new)) }
-        ensures cause { HasCause (IsErrOf result DiskFault.Failed) self.old.faults self.new.faults }
+        ensures cause { CountsFailure (IsErrOf result DiskFault.Failed) self.old.faults self.new.faults }
     {
         let outcome = self.layer.doomed(out);
         self.answer(outcome)

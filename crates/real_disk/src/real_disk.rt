@@ -1,7 +1,7 @@
 //! A folder of the machine as a disk.
 
 ghost use Rattle.std.specs.Prelude.{◌≡◌, IfOk, OnOk, OnErr, IsErr, IsErrOf, false};
-ghost use Rattle.cache_base.specs.Causes.{HasCause};
+ghost use Rattle.cache_base.specs.Causes.{CountsFailure};
 ghost use Rattle.disk_theory.specs.Calls.{no_counts};
 ghost use Rattle.disk_theory.specs.Silent.{nothing, never, never_finite};
 
@@ -70,7 +70,7 @@ impl<R: Files + AllocGlobal> RealDisk<'_, R> {
         ensures value { IfOk result (λ value. outcome ≡ Ok value) }
         ensures failed { OnErr result (IsErr outcome) }
         ensures folder { self.new.folder ≡ self.old.folder }
-        ensures cause { HasCause (IsErrOf result DiskFault.Failed) self.old.faults self.new.faults }
+        ensures cause { CountsFailure (IsErrOf result DiskFault.Failed) self.old.faults self.new.faults }
     {
         match outcome {
             Ok(value) => Ok(value),
@@ -114,7 +114,7 @@ impl<R: Machine<File = File> + AllocGlobal + Clock + Clone + Drop> Disk for Real
         ensures files { KeepsSameFiles self.old self.new }
         ensures state { IsTrue false → nothing ≡ if_ok result (settled nothing) nothing }
         ensures counts { IsTrue false → no_counts ≡ counted_sync result no_counts }
-        ensures cause { HasCause (IsErrOf result DiskFault.Failed) self.old.faults self.new.faults }
+        ensures cause { CountsFailure (IsErrOf result DiskFault.Failed) self.old.faults self.new.faults }
     {
         let outcome = self.folder.sync();
         self.answer(outcome)
@@ -129,7 +129,7 @@ impl<R: Machine<File = File> + AllocGlobal + Clock + Clone + Drop> Disk for Real
             size ≡ option_map length (standing nothing place.now)) }
         ensures state { IsTrue false → nothing ≡ nothing }
         ensures counts { IsTrue false → no_counts ≡ counted_read result place.now no_counts }
-        ensures cause { HasCause (IsErrOf result DiskFault.Failed) self.old.faults self.new.faults }
+        ensures cause { CountsFailure (IsErrOf result DiskFault.Failed) self.old.faults self.new.faults }
     {
         let outcome = self.folder.size(place);
         self.answer(outcome)
@@ -147,7 +147,7 @@ impl<R: Machine<File = File> + AllocGlobal + Clock + Clone + Drop> Disk for Real
             (n ≡ length part) × (buf.new ≡ part ++ drop n buf.old)) }
         ensures state { IsTrue false → nothing ≡ nothing }
         ensures counts { IsTrue false → no_counts ≡ counted_read result place.now no_counts }
-        ensures cause { HasCause (IsErrOf result DiskFault.Failed) self.old.faults self.new.faults }
+        ensures cause { CountsFailure (IsErrOf result DiskFault.Failed) self.old.faults self.new.faults }
     {
         let outcome = self.folder.read(place, from, buf);
         self.answer(outcome)
@@ -160,7 +160,7 @@ impl<R: Machine<File = File> + AllocGlobal + Clock + Clone + Drop> Disk for Real
         ensures state { IsTrue false →
             nothing ≡ if_done result (created place.now nothing) nothing }
         ensures counts { IsTrue false → no_counts ≡ counted_change result no_counts }
-        ensures cause { HasCause (IsErrOf result DiskFault.Failed) self.old.faults self.new.faults }
+        ensures cause { CountsFailure (IsErrOf result DiskFault.Failed) self.old.faults self.new.faults }
     {
         let outcome = self.folder.create(place);
         self.answer(outcome)
@@ -175,7 +175,7 @@ impl<R: Machine<File = File> + AllocGlobal + Clock + Clone + Drop> Disk for Real
         ensures state { IsTrue false → nothing
             ≡ if_done result (wrote place.now (End from bytes.now) nothing) nothing }
         ensures counts { IsTrue false → no_counts ≡ counted_change result no_counts }
-        ensures cause { HasCause (IsErrOf result DiskFault.Failed) self.old.faults self.new.faults }
+        ensures cause { CountsFailure (IsErrOf result DiskFault.Failed) self.old.faults self.new.faults }
     {
         let outcome = self.folder.write_end(place, from, bytes);
         self.answer(outcome)
@@ -192,7 +192,7 @@ impl<R: Machine<File = File> + AllocGlobal + Clock + Clone + Drop> Disk for Real
         ensures state { IsTrue false → nothing
             ≡ if_done result (wrote place.now (Patch from bytes.now) nothing) nothing }
         ensures counts { IsTrue false → no_counts ≡ counted_change result no_counts }
-        ensures cause { HasCause (IsErrOf result DiskFault.Failed) self.old.faults self.new.faults }
+        ensures cause { CountsFailure (IsErrOf result DiskFault.Failed) self.old.faults self.new.faults }
     {
         let outcome = self.folder.patch(place, from, bytes);
         self.answer(outcome)
@@ -206,7 +206,7 @@ impl<R: Machine<File = File> + AllocGlobal + Clock + Clone + Drop> Disk for Real
         ensures state { IsTrue false →
             nothing ≡ if_done result (renamed from.now to.now nothing) nothing }
         ensures counts { IsTrue false → no_counts ≡ counted_change result no_counts }
-        ensures cause { HasCause (IsErrOf result DiskFault.Failed) self.old.faults self.new.faults }
+        ensures cause { CountsFailure (IsErrOf result DiskFault.Failed) self.old.faults self.new.faults }
     {
         let outcome = self.folder.rename(from, to);
         self.answer(outcome)
@@ -220,7 +220,7 @@ impl<R: Machine<File = File> + AllocGlobal + Clock + Clone + Drop> Disk for Real
         ensures state { IsTrue false →
             nothing ≡ if_done result (removed place.now nothing) nothing }
         ensures counts { IsTrue false → no_counts ≡ counted_change result no_counts }
-        ensures cause { HasCause (IsErrOf result DiskFault.Failed) self.old.faults self.new.faults }
+        ensures cause { CountsFailure (IsErrOf result DiskFault.Failed) self.old.faults self.new.faults }
     {
         let outcome = self.folder.remove(place);
         self.answer(outcome)
@@ -232,7 +232,7 @@ impl<R: Machine<File = File> + AllocGlobal + Clock + Clone + Drop> Disk for Real
         ensures names { OnOk result (IsTrue false → AreEntries nothing out.new) }
         ensures state { IsTrue false → nothing ≡ nothing }
         ensures counts { IsTrue false → no_counts ≡ counted_look result no_counts }
-        ensures cause { HasCause (IsErrOf result DiskFault.Failed) self.old.faults self.new.faults }
+        ensures cause { CountsFailure (IsErrOf result DiskFault.Failed) self.old.faults self.new.faults }
     {
         let outcome = self.folder.entries();
         let names = self.answer(outcome)?;
@@ -246,7 +246,7 @@ impl<R: Machine<File = File> + AllocGlobal + Clock + Clone + Drop> Disk for Real
         ensures numbers { OnOk result (IsTrue false → AreDoomed nothing out.new) }
         ensures state { IsTrue false → nothing ≡ nothing }
         ensures counts { IsTrue false → no_counts ≡ counted_look result no_counts }
-        ensures cause { HasCause (IsErrOf result DiskFault.Failed) self.old.faults self.new.faults }
+        ensures cause { CountsFailure (IsErrOf result DiskFault.Failed) self.old.faults self.new.faults }
     {
         let outcome = self.folder.doomed();
         let numbers = self.answer(outcome)?;

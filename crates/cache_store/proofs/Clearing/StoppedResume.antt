@@ -31,7 +31,7 @@ use Rattle.index_record.specs.declared.record.IndexRecord.{IndexRecord}
 use Rattle.index_theory.specs.Scan.{scan}
 
 -- what it takes, by records that are those of all entries
-resumed_by_scan : (m : Machine) (origin : ℕ) → mark_of m.mark ≡ Some origin → resumed m ≡ covered_by (scan m.shelf) m origin
+pub resumed_by_scan : (m : Machine) (origin : ℕ) → mark_of m.mark ≡ Some origin → resumed m ≡ covered_by (scan m.shelf) m origin
 unfolding resumed_by
 resumed_by_scan m origin is = resume_goes_by_scan m ∙ ap (taken_for_by (scan m.shelf) m) is
 

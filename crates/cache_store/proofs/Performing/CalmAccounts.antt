@@ -1,6 +1,6 @@
 -- The account of a call that failed after calls none of which did, where its fault is handed on.
 use Rattle.std.proofs.Common.{arith, ℕ, ◌≡◌, ◌≢◌, ◌⊎◌, inl, inr, ◌∙◌, Result, Ok, Err, IsErrAnd, ap, sym, subst}
-use Rattle.cache_base.specs.Causes.{HasCause}
+use Rattle.cache_base.specs.Causes.{CountsFailure}
 use Rattle.cache_io.specs.declared.sink.SinkFault.{SinkFault}
 use Rattle.cache_io.specs.declared.sink.SinkFault.TheVariants as sink
 use Rattle.cache_store.specs.Faults.{ending as store_ending, fault_ending as store_fault_ending, of_sink}
@@ -16,7 +16,7 @@ use Rattle.file_handles.proofs.Accounting.{syncs_then}
 -- the calls before synced nothing
 pub accounts_after : {Self : _} (D : Ghosts Self) (e : Ending) {n : ℕ} (a b c : Self) → IsCalm D no_sync a b → Accounts D e n b c → Accounts D e n a c
 accounts_after D e {n} a b c calm last = record {
-  cause = subst (λ n. HasCause (e ≡ Ending.OneFailed) n (D.faults c)) calm.faults last.cause;
+  cause = subst (λ n. CountsFailure (e ≡ Ending.OneFailed) n (D.faults c)) calm.faults last.cause;
   went_on = λ none told. last.went_on none told ∙ calm.no_change told;
   stops = λ told. subst (λ failed. ((D.counts c).failed ≡ failed) ⊎ FailsLast failed (D.counts c)) (calm.no_change told) (last.stops told);
   last = last.last;

@@ -3,6 +3,7 @@ use Rattle.std.proofs.Common.{◌≡◌, ◌≢◌, ◌⊎◌, ◌∙◌, ◌∷
 use Rattle.std.specs.Prelude.{IfOk, OnOk}
 use Rattle.std.specs.Io.KnownBytes.{Appends}
 use Rattle.std.proofs.KnownBytes.{Appends-nil}
+use Rattle.cache_base.specs.Causes.{CountsFailure}
 use Rattle.cache_base.specs.declared.status.Status.{Status}
 use Rattle.cache_base.specs.declared.status.Status.TheVariants as status
 use Rattle.cache_store.specs.Open.{StartsOn}
@@ -22,6 +23,7 @@ use Rattle.cache_tool.specs.FillProgress.{FillIsPerformed}
 use Rattle.cache_tool.specs.Statuses.{IsAnswer, IsClosing, status_in}
 use Rattle.cache_tool.specs.Verbs.{LeavesDisk, all_begun_none_acked}
 use Rattle.cache_tool.specs.World.{Output}
+use Rattle.cache_tool.proofs.Counting.{calm_cause}
 use Rattle.cache_tool.proofs.DoneLaws.{are_done_where}
 use Rattle.cache_tool.proofs.Puts.PutEnds.{Printed, never_disk}
 use Rattle.cache_tool.proofs.SessionEnds.{begun_leave, leaves_at, resumed_tells}
@@ -76,9 +78,9 @@ module _ {moment : ℕ} (count given : ℕ) (came : Result Status StoreFault) (e
   left = begun_leave before.disk mid begins m is_start last t ended ends (done_in fill.filled) (status_in came) same dropped kept fill.safe (came_ok _ came no_sink fill.stands)
 
   -- an answer is printed
-  pub answered : {sink_faults faults : ℕ} {counts : Counts} (final : Status) (taken : Option (List ℕ)) → IsAnswer ended → Printed ended final before.taken taken lines
+  pub answered : {sink_faults faults : ℕ} {counts : Counts} (final : Status) (taken : Option (List ℕ)) → CountsFailure (ended ≡ status.Disk) before.disk_faults faults → IsAnswer ended → Printed ended final before.taken taken lines
       → PrintsFill moment count given m (begins.resumed m is_start).done final before (record { taken = taken; sink_faults = sink_faults; disk = t; disk_faults = faults; disk_counts = counts })
-  answered final taken answer printed =
+  answered final taken cause answer printed =
       let closes : IsClosing (status_in came) = subst IsClosing (closing_same ended (status_in came) same (answer_closes ended answer)) (answer_closes ended answer) in
       let text : lines ≡ lines_in fill.filled = came_ok _ came no_sink fill.printed closes in
       record {
@@ -89,14 +91,15 @@ module _ {moment : ℕ} (count given : ℕ) (came : Result Status StoreFault) (e
           part = subst (IsPart before.taken taken) text printed.part;
           cut = λ sink. subst (IsCut before.taken taken) text (printed.cut sink);
         };
+        cause = calm_cause (never_disk ended ended answer (inl refl)) (never_disk ended final answer printed.same) cause;
         last = λ disk. absurd (never_disk ended final answer printed.same disk);
         leaves = leaves_at m (all_begun_none_acked m (begins.resumed m is_start).done (done_in fill.filled)) ended final before.disk t (λ closing. answer_closes ended answer) left;
       }
 
   -- none is
-  pub not_answered : {faults : ℕ} {counts : Counts} → (ended ≡ status.Disk → LastCallFails counts) → ¬ (IsAnswer ended) → ended ≢ status.Sink
+  pub not_answered : {faults : ℕ} {counts : Counts} → CountsFailure (ended ≡ status.Disk) before.disk_faults faults → (ended ≡ status.Disk → LastCallFails counts) → ¬ (IsAnswer ended) → ended ≢ status.Sink
       → PrintsFill moment count given m (begins.resumed m is_start).done ended before (record before { disk = t; disk_faults = faults; disk_counts = counts })
-  not_answered last other sink_not = record {
+  not_answered cause last other sink_not = record {
     filled = filled;
     answer = λ a. absurd (other a);
     text = record {
@@ -104,6 +107,7 @@ module _ {moment : ℕ} (count given : ℕ) (came : Result Status StoreFault) (e
       part = none_printed before.taken _;
       cut = λ sink. absurd (sink_not sink);
     };
+    cause = cause;
     last = last;
     leaves = left;
   }

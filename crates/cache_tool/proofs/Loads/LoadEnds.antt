@@ -4,6 +4,7 @@ use Rattle.std.specs.Prelude.{IfOk, OnOk, is_some}
 use Rattle.std.specs.Io.KnownBytes.{Appends}
 use Rattle.std.proofs.KnownBytes.{Keeps-refl}
 use Rattle.std.proofs.lemmas.Bool.{cond_both}
+use Rattle.cache_base.specs.Causes.{CountsFailure}
 use Rattle.cache_base.specs.declared.name.Name.{Name}
 use Rattle.cache_base.specs.declared.status.Status.{Status}
 use Rattle.cache_base.specs.declared.status.Status.TheVariants as status
@@ -32,6 +33,7 @@ use Rattle.cache_tool.specs.Load.{BeginsLoaded, HasDump, HasNoDump, IsDumpOf, Is
 use Rattle.cache_tool.specs.Load.IsLoadLine.{TellsBad, TellsDump}
 use Rattle.cache_store.specs.Syncs.{all_syncs}
 use Rattle.cache_tool.specs.Syncs.{SyncsWithin, ending_syncs, opening_syncs}
+use Rattle.cache_tool.proofs.Counting.{calm_cause}
 use Rattle.cache_tool.proofs.SyncLaws.{syncs_run}
 use Rattle.cache_tool.specs.LoadProgress.{EndsLoaded, HoldsLine, IsLine, PerformsLoad, ReadsLoaded, TellsNumber, status_at_end}
 use Rattle.cache_tool.specs.PutProgress.{all_unanswered}
@@ -320,10 +322,10 @@ module _ {moment : ℕ} (tells : Type 0) (told : tells) (bytes : List ℕ) (came
       subst (λ o. IfSome o (ReadsLoaded final before.source.left left load.loaded)) from
       (reads_at final (status_in came) before.source.left left load.loaded done_so script_so source_so load.reads)
 
-  loads_with : (final : Status) (now : World) (reads : ReadsLoaded final before.source.left now.source.left load.loaded bytes) → final ≢ status.No → (final ≡ status.Disk → LastCallFails now.disk_counts) → SyncsWithin ending_syncs k1 now.disk_counts → PrintsLoadLine bytes load.loaded reads.read final before.taken now.taken
+  loads_with : (final : Status) (now : World) (reads : ReadsLoaded final before.source.left now.source.left load.loaded bytes) → final ≢ status.No → CountsFailure (final ≡ status.Disk) before.disk_faults now.disk_faults → (final ≡ status.Disk → LastCallFails now.disk_counts) → SyncsWithin ending_syncs k1 now.disk_counts → PrintsLoadLine bytes load.loaded reads.read final before.taken now.taken
       → LeavesDisk m (all_begun_none_acked m (begins.resumed m is_start).done (loaded_commands load.loaded)) final before.disk now.disk
       → PrintsLoaded m (begins.resumed m is_start).done bytes final before now
-  loads_with final now reads accepted last closed prints leaves =
+  loads_with final now reads accepted cause last closed prints leaves =
       let proper : IsProper (step m (begins.resumed m is_start).done).next = proper_at mid (acked (begins.resumed m is_start).done (settled_at m)) (begins.resumed m is_start).leads.keeps in
       let free = no_slot moment before.disk m (GoesBy begins.first m) (mark_of m.mark) (begins.resumed m is_start).done is_start (begins.resumed m is_start).is_done in
       record {
@@ -336,15 +338,16 @@ module _ {moment : ℕ} (tells : Type 0) (told : tells) (bytes : List ℕ) (came
         stocked = items_are_stocked (step m (begins.resumed m is_start).done).next load.loaded.items proper free reads.read.items;
         found = stock_is_found (step m (begins.resumed m is_start).done).next.shelf load.loaded.items proper.shelf reads.read.items;
         prints = prints;
+        cause = cause;
         last = last;
         syncs = syncs_run (all_syncs (loaded_commands load.loaded)) before.disk_counts k0 k1 now.disk_counts opened (load.syncs told) closed;
         leaves = leaves;
       }
 
   -- a line is printed
-  pub line_said : {faults source_faults sink_faults : ℕ} {counts : Counts} (final : Status) (taken : Option (List ℕ)) → SyncsWithin ending_syncs k1 counts → IsLine ended → SaysLine ended final before.taken taken text
+  pub line_said : {faults source_faults sink_faults : ℕ} {counts : Counts} (final : Status) (taken : Option (List ℕ)) → CountsFailure (ended ≡ status.Disk) before.disk_faults faults → SyncsWithin ending_syncs k1 counts → IsLine ended → SaysLine ended final before.taken taken text
       → PrintsLoaded m (begins.resumed m is_start).done bytes final before (record { source = record { left = left; faults = source_faults }; taken = taken; sink_faults = sink_faults; disk = t; disk_faults = faults; disk_counts = counts })
-  line_said final taken closed line says =
+  line_said final taken cause closed line says =
       let is : ended ≡ status_in came = closing_same ended (status_in came) same (line_closes ended line) in
       let holds : HoldsLine ended (length load.loaded.items) text = subst (λ s. HoldsLine s (length load.loaded.items) text) (sym is) load.line in
       let at_end : ReadsLoaded ended before.source.left left load.loaded bytes = reads_so ended (λ e. sym is ∙ e) (λ e. sym is ∙ e) (λ e. sym is ∙ e) in
@@ -355,14 +358,14 @@ module _ {moment : ℕ} (tells : Type 0) (told : tells) (bytes : List ℕ) (came
         broken = λ e. at_end.broken (same_end ended final status.Source (λ x. cc) (λ x. cc) says.same e);
       } in
       loads_with final _ reads
-      (never_no ended final line says.same) (λ disk. absurd (never_silent ended final line says.same (inr disk))) closed (line_printed bytes load.loaded ended final before.source.left left at_end before.taken taken text line holds says)
+      (never_no ended final line says.same) (calm_cause (λ disk. never_silent ended ended line (inl refl) (inr disk)) (λ disk. never_silent ended final line says.same (inr disk)) cause) (λ disk. absurd (never_silent ended final line says.same (inr disk))) closed (line_printed bytes load.loaded ended final before.source.left left at_end before.taken taken text line holds says)
       (leaves_at m (all_begun_none_acked m (begins.resumed m is_start).done (loaded_commands load.loaded)) ended final before.disk t (λ closing. line_closes ended line) session_left)
 
   -- none is
-  pub none_said : {faults source_faults sink_faults : ℕ} {counts : Counts} → (ended ≡ status.Disk → LastCallFails counts) → SyncsWithin ending_syncs k1 counts → ¬ (IsLine ended) → ended ≢ status.Sink → ended ≢ status.No
+  pub none_said : {faults source_faults sink_faults : ℕ} {counts : Counts} → CountsFailure (ended ≡ status.Disk) before.disk_faults faults → (ended ≡ status.Disk → LastCallFails counts) → SyncsWithin ending_syncs k1 counts → ¬ (IsLine ended) → ended ≢ status.Sink → ended ≢ status.No
       → PrintsLoaded m (begins.resumed m is_start).done bytes ended before (record { source = record { left = left; faults = source_faults }; taken = before.taken; sink_faults = sink_faults; disk = t; disk_faults = faults; disk_counts = counts })
-  none_said last closed other not_sink not_no =
+  none_said cause last closed other not_sink not_no =
       let reads : ReadsLoaded ended before.source.left left load.loaded bytes =
       reads_so ended (λ e. came_end ended (status_in came) status.Done (λ x. cc) (λ x. cc) same e) (λ e. came_end ended (status_in came) status.Script (λ x. cc) (λ x. cc) same e)
       (λ e. came_end ended (status_in came) status.Source (λ x. cc) (λ x. cc) same e) in
-      loads_with ended _ reads not_no last closed (none_printed bytes load.loaded reads.read ended before.taken other not_sink) session_left
+      loads_with ended _ reads not_no cause last closed (none_printed bytes load.loaded reads.read ended before.taken other not_sink) session_left

@@ -3,7 +3,7 @@ use Rattle.std.proofs.Common.{◌≡◌, ◌≢◌, ◌⊎◌, inl, inr, ℕ, �
 use Rattle.std.specs.Prelude.{Err, IfOk, Ok, Option, Result}
 use Rattle.std.specs.Io.KnownBytes.{Appends}
 use Rattle.std.proofs.KnownBytes.{Appends-nil, Keeps-refl}
-use Rattle.cache_base.specs.Causes.{HasCause, Rose}
+use Rattle.cache_base.specs.Causes.{CountsFailure, RoseOnce}
 use Rattle.cache_base.specs.declared.status.Status.{Status}
 use Rattle.cache_base.specs.declared.status.Status.TheVariants as status
 use Rattle.cache_store.specs.Faults.{ending}
@@ -28,6 +28,7 @@ use Rattle.cache_tool.specs.PutProgress.{PutIsPerformed}
 use Rattle.cache_tool.specs.Statuses.{IsAnswer, IsClosing, status_in}
 use Rattle.cache_tool.specs.Verbs.{LeavesDisk, PrintsLast, all_begun_none_acked}
 use Rattle.cache_tool.specs.World.{Output, Supply}
+use Rattle.cache_tool.proofs.Counting.{calm_cause}
 use Rattle.cache_tool.proofs.ForGood.{stops_last}
 use Rattle.cache_tool.proofs.SessionEnds.{begun_leave, leaves_at}
 use Rattle.cache_tool.proofs.StatusLaws.{EndsAs, answer_closes, closing_same}
@@ -78,9 +79,9 @@ module _ {moment : ℕ} (key : List ℕ) (from to : Supply) (came ended : Status
   left = begun_leave before.disk mid begins m is_start last t ended ends put.commands came same dropped kept put.safe put.stands
 
   -- an answer is printed
-  pub answered : {sink_faults faults : ℕ} {counts : Counts} (final : Status) (taken : Option (List ℕ)) → IsAnswer ended → Printed ended final before.taken taken said
+  pub answered : {sink_faults faults : ℕ} {counts : Counts} (final : Status) (taken : Option (List ℕ)) → CountsFailure (ended ≡ status.Disk) before.disk_faults faults → IsAnswer ended → Printed ended final before.taken taken said
       → (cs : List Command) × (ArePut (step m (begins.resumed m is_start).done).next key from to final cs × PrintsLast m (begins.resumed m is_start).done cs final before (record { taken = taken; sink_faults = sink_faults; disk = t; disk_faults = faults; disk_counts = counts }))
-  answered final taken answer printed =
+  answered final taken cause answer printed =
       let is : ended ≡ came = closing_same ended came same (answer_closes ended answer) in
       let reply = put.last (subst IsAnswer is answer) in (
         put.commands,
@@ -94,6 +95,7 @@ module _ {moment : ℕ} (key : List ℕ) (from to : Supply) (came ended : Status
               cut = λ sink. subst (IsCut before.taken taken) reply.replied (printed.cut sink);
             };
             silent = λ source. absurd (never_source ended final answer printed.same source);
+            cause = calm_cause (never_disk ended ended answer (inl refl)) (never_disk ended final answer printed.same) cause;
             for_good = λ disk. absurd (never_disk ended final answer printed.same disk);
             leaves = leaves_at m (all_begun_none_acked m (begins.resumed m is_start).done put.commands) ended final before.disk t (λ closing. answer_closes ended answer) left;
           },
@@ -101,9 +103,9 @@ module _ {moment : ℕ} (key : List ℕ) (from to : Supply) (came ended : Status
       )
 
   -- none is
-  pub not_answered : {faults : ℕ} {counts : Counts} → (ended ≡ status.Disk → LastFails counts) → ¬ (IsAnswer ended) → ended ≢ status.Sink
+  pub not_answered : {faults : ℕ} {counts : Counts} → CountsFailure (ended ≡ status.Disk) before.disk_faults faults → (ended ≡ status.Disk → LastFails counts) → ¬ (IsAnswer ended) → ended ≢ status.Sink
       → (cs : List Command) × (ArePut (step m (begins.resumed m is_start).done).next key from to ended cs × PrintsLast m (begins.resumed m is_start).done cs ended before (record before { disk = t; disk_faults = faults; disk_counts = counts }))
-  not_answered last other no_sink = (
+  not_answered cause last other no_sink = (
     put.commands,
     (
       are_put_at (step m (begins.resumed m is_start).done).next key from to came ended put.commands (λ a. absurd (other a)) put.are_put,
@@ -115,6 +117,7 @@ module _ {moment : ℕ} (key : List ℕ) (from to : Supply) (came ended : Status
           cut = λ sink. absurd (no_sink sink);
         };
         silent = λ source. Keeps-refl before.taken;
+        cause = cause;
         for_good = λ disk. stops_last (step m (begins.resumed m is_start).done).next put.commands before _ (last disk);
         leaves = left;
       },
@@ -181,13 +184,13 @@ only_closes : (s : Status) → IsAnswer s ⊎ (s ≡ status.Source) → IsClosin
 only_closes s (inl answer) = answer_closes s answer
 only_closes s (inr source) = subst IsClosing (sym source) tt
 
-pub closing_cause : (came : Result Status StoreFault) (ended : Status) (a b c d : ℕ) → IfOk came IsClosing → came ≢ Err fault.Sink → b ≡ a
-    → HasCause (ending came ≡ Ending.OneFailed) b c → (IsClosing (status_in came) → HasCause (ended ≡ status.Disk) c d)
-    → (¬ (IsClosing (status_in came)) → (ended ≡ status_in came) × (d ≡ c)) → HasCause (ended ≡ status.Disk) a d
-closing_cause (Ok s) ended a b c d closes other same first second dropped =
+pub closing_cause : (came : Result Status StoreFault) (ended : Status) {a b c d : ℕ} → IfOk came IsClosing → b ≡ a
+    → CountsFailure (ending came ≡ Ending.OneFailed) b c → (IsClosing (status_in came) → CountsFailure (ended ≡ status.Disk) c d)
+    → (¬ (IsClosing (status_in came)) → (ended ≡ status_in came) × (d ≡ c)) → CountsFailure (ended ≡ status.Disk) a d
+closing_cause (Ok s) ended {a} {b} {c} {d} closes same first second dropped =
     let kept : c ≡ a = first.kept (λ h. cc) ∙ same in
-    subst (λ n. HasCause (ended ≡ status.Disk) n d) kept (second closes)
-closing_cause (Err fault.Memory) ended a b c d closes other same first second dropped =
+    subst (λ n. CountsFailure (ended ≡ status.Disk) n d) kept (second closes)
+closing_cause (Err fault.Memory) ended {a} {b} {c} {d} closes same first second dropped =
     let end = dropped (λ h. h) in
     let kept : d ≡ a = end.1 ∙ first.kept (λ h. absurd (cc)) ∙ same in
     record {
@@ -195,21 +198,23 @@ closing_cause (Err fault.Memory) ended a b c d closes other same first second dr
       rose = λ disk. absurd (let e : status.Memory ≡ status.Disk = sym end.0 ∙ disk in cc);
       kept = λ other_end. kept;
     }
-closing_cause (Err fault.Disk) ended a b c d closes other same first second dropped =
+closing_cause (Err fault.Disk) ended {a} {b} {c} {d} closes same first second dropped =
     let end = dropped (λ h. h) in
-    let rose : Rose a d = subst (λ n. Rose n d) same (subst (λ n. Rose b n) (sym end.1) (first.rose refl)) in
+    let rose : RoseOnce a d = subst (λ n. RoseOnce n d) same (subst (λ n. RoseOnce b n) (sym end.1) (first.rose refl)) in
     let later : b ≤ c = first.later in
     record {
       later = (let same_end = end.1 in omega (arith, later, same, same_end));
       rose = λ disk. rose;
       kept = λ other_end. absurd (other_end end.0);
     }
-closing_cause (Err fault.Sink) ended a b c d closes other same first second dropped = absurd (other refl)
+closing_cause (Err fault.Sink) ended {a} {b} {c} {d} closes same first second dropped =
+    let kept : c ≡ a = first.kept (λ h. cc) ∙ same in
+    subst (λ n. CountsFailure (ended ≡ status.Disk) n d) kept (second tt)
 
-pub disk_cause : (came : Result Status StoreFault) (ended : Status) (a b c d : ℕ) → IfOk came (λ s. IsAnswer s ⊎ (s ≡ status.Source)) → came ≢ Err fault.Sink → b ≡ a
-    → HasCause (ending came ≡ Ending.OneFailed) b c → (IsClosing (status_in came) → HasCause (ended ≡ status.Disk) c d)
-    → (¬ (IsClosing (status_in came)) → (ended ≡ status_in came) × (d ≡ c)) → HasCause (ended ≡ status.Disk) a d
-disk_cause came ended a b c d only other same first second dropped = closing_cause came ended a b c d (closes came only) other same first second dropped
+pub disk_cause : (came : Result Status StoreFault) (ended : Status) {a b c d : ℕ} → IfOk came (λ s. IsAnswer s ⊎ (s ≡ status.Source)) → b ≡ a
+    → CountsFailure (ending came ≡ Ending.OneFailed) b c → (IsClosing (status_in came) → CountsFailure (ended ≡ status.Disk) c d)
+    → (¬ (IsClosing (status_in came)) → (ended ≡ status_in came) × (d ≡ c)) → CountsFailure (ended ≡ status.Disk) a d
+disk_cause came ended only same first second dropped = closing_cause came ended (closes came only) same first second dropped
   where
     closes : (came : Result Status StoreFault) → IfOk came (λ s. IsAnswer s ⊎ (s ≡ status.Source)) → IfOk came IsClosing
     closes (Ok s) only = only_closes s only

@@ -1,6 +1,6 @@
 -- What the verb `run` comes to, by what its commands and the end of the session came to.
-use Rattle.std.proofs.Common.{◌≡◌, ◌≢◌, ◌⊎◌, inl, inr, ⊎_elim, ℕ, suc, ◌+◌, ◌≤◌, List, length, take, Option, None, Some, Result, Err, refl, sym, subst, ◌∙◌}
-use Rattle.cache_base.specs.Causes.{HasCause, Rose}
+use Rattle.std.proofs.Common.{◌≡◌, ◌≢◌, ◌⊎◌, inl, inr, ⊎_elim, ℕ, ◌+◌, List, length, take, Option, None, Some, Result, Err, refl, sym, subst, ◌∙◌}
+use Rattle.cache_base.specs.Causes.{CountsFailure, Rose, RoseOnce}
 use Rattle.cache_base.specs.declared.status.Status.{Status}
 use Rattle.cache_base.specs.declared.status.Status.TheVariants as status
 use Rattle.cache_store.specs.Faults.{ending}
@@ -21,6 +21,7 @@ use Rattle.cache_tool.specs.ScriptProgress.{LeavesScript, PerformsScript, marks_
 use Rattle.cache_tool.specs.Statuses.{IsClosing, status_in}
 use Rattle.cache_tool.specs.Verbs.{LeavesDisk, Reach, RunsScript, one_begun_after, begun_of}
 use Rattle.cache_tool.specs.World.{Progress, World, output_of, world_of}
+use Rattle.cache_tool.proofs.Counting.{raised_more}
 use Rattle.cache_tool.proofs.DoneLaws.{are_done_where}
 use Rattle.cache_tool.proofs.MarkLeft.{closed_leaves_mark}
 use Rattle.cache_tool.proofs.Moments.{with_left}
@@ -28,7 +29,6 @@ use Rattle.cache_tool.proofs.SyncLaws.{syncs_run}
 use Rattle.cache_tool.specs.Syncs.{SyncsWithin, ending_syncs, opening_syncs}
 use Rattle.cache_store.specs.Syncs.{all_syncs}
 use Rattle.cache_tool.proofs.OneCommand.{not_begun}
-use Rattle.cache_tool.proofs.Scripts.ScriptTurns.{counts_more, counts_on}
 use Rattle.cache_tool.proofs.SessionEnds.{ends_leave, resumed_done, resumed_tells, stops_leave}
 use Rattle.cache_tool.proofs.StatusLaws.{EndsAs, closes_or_not, closing_same}
 use Rattle.disk_theory.specs.Account.{Ending}
@@ -44,7 +44,7 @@ abbrev told : World → Option (List ℕ) → World
 told w left = record w { source = record (w.source) { left = left } }
 
 pub runs_not_begun : {T : Type 0} (counts : Counts) (moment : ℕ) (before : World) (t : State) (faults : ℕ) (answer : Result T StoreFault) (f : StoreFault) (ended : Status) → answer ≡ Err f → answer ≢ Err fault.Sink → ended ≡ status_in (Err f)
-    → HasCause (ending answer ≡ Ending.OneFailed) before.disk_faults faults → (ending answer ≡ Ending.OneFailed → LastCallFails counts) → (ending answer ≡ Ending.OneFailed → FailsBeforeCommands before.disk t before.disk_counts counts) → ReadsNone before.disk before.disk_counts counts → SyncsWithin opening_syncs before.disk_counts counts → FailsToBegin moment before.disk t → RunsScript moment ended before (record before { disk = t; disk_faults = faults; disk_counts = counts })
+    → CountsFailure (ending answer ≡ Ending.OneFailed) before.disk_faults faults → (ending answer ≡ Ending.OneFailed → LastCallFails counts) → (ending answer ≡ Ending.OneFailed → FailsBeforeCommands before.disk t before.disk_counts counts) → ReadsNone before.disk before.disk_counts counts → SyncsWithin opening_syncs before.disk_counts counts → FailsToBegin moment before.disk t → RunsScript moment ended before (record before { disk = t; disk_faults = faults; disk_counts = counts })
 runs_not_begun counts moment before t faults answer f ended failed no_sink same cause last opening none syncs fails = go before.source.left
   where
     go : (left : Option (List ℕ)) → RunsScript moment ended (told before left) (record (told before left) { disk = t; disk_faults = faults; disk_counts = counts })
@@ -90,11 +90,12 @@ module _ {moment : ℕ} (s : State) (mid : Session) (begins : BeginsRun moment s
 pub runs_ended : (k0 k1 : ℕ) (c0 c1 : Counts) (moment : ℕ) (ended : Status) (came : Result Status StoreFault) (s : State) (mid last : Progress) (t : State) (begun faults : ℕ) → mid.disk_faults ≡ begun → IsFinite s → BeginsRun moment s mid.session
     → PerformsScript came mid last → LeavesHonest last.session.disk
     → EndsSession ended last.session t → EndsAs ended (status_in came) → (¬ (IsClosing (status_in came)) → t ≡ last.session.disk)
-    → last.disk_faults ≤ faults → (ended ≡ status.Disk → ((status_in came ≡ status.Disk) × (c1 ≡ last.disk_counts)) ⊎ (Rose last.disk_faults faults × LastFails c1))
+    → (ended ≡ status.Disk → ((status_in came ≡ status.Disk) × ((c1 ≡ last.disk_counts) × (faults ≡ last.disk_faults))) ⊎ ((status_in came ≢ status.Disk) × (RoseOnce last.disk_faults faults × LastFails c1)))
     → (ended ≢ status.Disk → (status_in came ≢ status.Disk) × (faults ≡ last.disk_faults))
+    → (¬ (IsClosing (status_in came)) → ended ≡ status_in came) → (status_in came ≡ status.Sink → Rose k0 k1)
     → SyncsWithin opening_syncs c0 mid.disk_counts → SyncsWithin ending_syncs last.disk_counts c1
     → RunsScript moment ended (record (world_of mid k0 c0) { disk = s; disk_faults = begun }) (record (world_of last k1 c1) { disk = t; disk_faults = faults })
-runs_ended k0 k1 c0 c1 moment ended came s mid last t begun faults calm finite begins performs kept ends same dropped later failed sound opened closed =
+runs_ended k0 k1 c0 c1 moment ended came s mid last t begun faults calm finite begins performs kept ends same dropped failed sound still sank opened closed =
     subst (λ n. RunsScript moment ended (record (world_of mid k0 c0) { disk = s; disk_faults = n }) (record (world_of last k1 c1) { disk = t; disk_faults = faults })) calm (go mid.source.left performs)
   where
     go : (left : Option (List ℕ)) → PerformsScript came (with_left mid left) last → RunsScript moment ended (record (world_of (with_left mid left) k0 c0) { disk = s }) (record (world_of last k1 c1) { disk = t; disk_faults = faults })
@@ -103,7 +104,6 @@ runs_ended k0 k1 c0 c1 moment ended came s mid last t begun faults calm finite b
         let resumed = begins.resumed m is in
         let r = performs.each (acked resumed.done (settled_at m)) cs resumed.leads.keeps found in
         let as_came : IsClosing ended → status_in came ≡ ended = λ closes. sym (closing_same ended (status_in came) same closes) in
-        let count : ℕ = length r.faults in
         inl (
           resumed.done,
           (
@@ -116,17 +116,25 @@ runs_ended k0 k1 c0 c1 moment ended came s mid last t begun faults calm finite b
               with_last = r.with_last;
               counts = record {
                 numbers = r.counts.numbers;
-                counted = counts_on count mid.disk_faults last.disk_faults faults later r.counts.counted;
-                last = elim r.counts.last [
-                  | inl none ↦ inl none
-                  | inr (cut, once) ↦ inr (cut, counts_on (suc count) mid.disk_faults last.disk_faults faults later once)
-                ];
+                last = r.counts.last;
+                counted = λ other. (sound other).1 ∙ r.counts.counted (sound other).0;
                 disk = λ e. elim (failed e) [
-                  | inl (before, still) ↦ counts_on (suc count) mid.disk_faults last.disk_faults faults later (r.counts.disk before)
-                  | inr (closing, last_call) ↦ counts_more count mid.disk_faults last.disk_faults faults closing r.counts.counted
+                  | inl (before, (still, same_faults)) ↦ same_faults ∙ r.counts.disk before
+                  | inr (before, (closing, last_call)) ↦ raised_more (length r.with_last) mid.disk_faults last.disk_faults faults closing (r.counts.counted before)
                 ];
-                calm = λ none other. (sound other).1 ∙ r.counts.calm none (sound other).0;
               };
+              line_cut = λ other.
+                  let cut = r.line_cut other in (
+                    cut.0,
+                    elim cut.1 [
+                      | inl memory ↦ inl (still (λ closing. subst IsClosing memory closing) ∙ memory)
+                      | inr sink ↦ elim same [
+                        | inl is ↦ inr (inl (is ∙ sink), sank sink)
+                        | inr (inl disk) ↦ inr (inr disk, sank sink)
+                        | inr (inr memory) ↦ inl memory
+                      ]
+                    ],
+                  );
               are_done = are_done_where (resumed_tells s mid.session begins m is) (step m resumed.done).next (unfaulted r.with_last cs) (unfaulted r.with_last r.done) r.is_done.are_done;
               all = λ e. r.tells.all (⊎_elim (λ done. inl (as_came (subst IsClosing (sym done) tt) ∙ done)) (λ script. inr (as_came (subst IsClosing (sym script) tt) ∙ script)) e);
               replies =
@@ -140,11 +148,13 @@ runs_ended k0 k1 c0 c1 moment ended came s mid last t begun faults calm finite b
                     all = λ e. said.all (as_came (subst IsClosing (sym e) tt) ∙ e);
                     script = λ e. said.script (as_came (subst IsClosing (sym e) tt) ∙ e);
                     source = λ e. said.source (as_came (subst IsClosing (sym e) tt) ∙ e);
+                    cut = λ e. said.cut (as_came (subst IsClosing (sym e) tt) ∙ e);
+                    no_line_cut = λ e. said.no_line_cut (as_came (subst IsClosing (sym e) tt) ∙ e);
                   };
               source = λ e. r.tells.source (as_came (subst IsClosing (sym e) tt) ∙ e);
               for_good = λ e. elim (failed e) [
-                | inl (before, still) ↦ ⊎_elim (λ last_call. inl (subst LastFails (sym still) last_call)) (λ sends. inr (subst LastLookFails (sym still) sends.0, sends.1)) (r.for_good before)
-                | inr (closing, last_call) ↦ inl last_call
+                | inl (before, (still, same_faults)) ↦ ⊎_elim (λ last_call. inl (subst LastFails (sym still) last_call)) (λ sends. inr (subst LastLookFails (sym still) sends.0, sends.1)) (r.for_good before)
+                | inr (before, (closing, last_call)) ↦ inl last_call
               ];
               leaves = ended_leaves s mid.session begins m is r.acked r.with_last r.done last.session t ended (status_in came) r.leaves ends same dropped kept;
               clearing = λ origin next right.

@@ -1,5 +1,5 @@
 -- What is performed of a script, turn by turn.
-use Rattle.std.proofs.Common.{◌≡◌, ◌⊎◌, inl, inr, ⊎_elim, ℕ, suc, ◌+◌, ◌<◌, ◌≤◌, List, [], ◌∷◌, ◌++◌, length, take, Option, None, Some, Result, Ok, Err, IsErrAnd, refl, sym, ap, subst, ◌∙◌, arith, append-nil, length-append}
+use Rattle.std.proofs.Common.{◌≡◌, ◌⊎◌, inl, inr, ⊎_elim, ℕ, suc, ◌+◌, ◌<◌, List, [], ◌∷◌, ◌++◌, length, take, Option, None, Some, Result, Ok, Err, IsErrAnd, refl, sym, ap, subst, ◌∙◌, arith, append-nil, length-append}
 use Rattle.std.specs.Io.KnownBytes.{Appends}
 use Rattle.std.specs.Prelude.{Bool, IfSome, IsTrue, slice_get}
 use Rattle.std.proofs.KnownBytes.{Appends-nil, Appends-trans}
@@ -9,7 +9,7 @@ use Rattle.cache_script.specs.Reader.{BreaksOff, Ends, Gives, IsBadScript, Leave
 use Rattle.cache_script.specs.declared.command.Command.{Command as Given}
 use Rattle.cache_script.specs.declared.reader.Reader.{Reader}
 use Rattle.cache_script.specs.declared.reader.ScriptFault.{ScriptFault}
-use Rattle.cache_base.specs.Causes.{Rose}
+use Rattle.cache_base.specs.Causes.{RoseOnce}
 use Rattle.cache_store.specs.AtClear.{ChangesAtClear}
 use Rattle.cache_store.specs.Clearing.{origin_cleared}
 use Rattle.cache_store.specs.DoneFor.{IsDoneFor}
@@ -36,19 +36,19 @@ use Rattle.cache_tool.specs.Syncs.{SyncsFor, SyncsWithin}
 use Rattle.cache_tool.proofs.SyncLaws.{syncs_next}
 use Rattle.cache_store.specs.Syncs.{most_syncs}
 use Rattle.cache_tool.specs.Right.{LeadTo, has_rebuild}
-use Rattle.cache_tool.specs.ScriptProgress.{AreRead, ArePerformed, DoneForKept, EndsScript, FailsAfter, FailsInLine, FailsInReply, FaultsAfter, HasPerformed, IsCutOff, PerformsAll, PerformsNext, all_answered, ChangeMarkBut}
+use Rattle.cache_tool.specs.ScriptProgress.{AreRead, ArePerformed, DoneForKept, EndsScript, FailsAfter, FailsInLine, FailsInReply, FailedTimes, FaultsAfter, HasPerformed, IsCutOff, PerformsAll, PerformsNext, all_answered, ChangeMarkBut}
 use Rattle.cache_tool.specs.Staying.{StaysFor, StaysOnce}
 use Rattle.cache_tool.specs.Statuses.{status_in}
-use Rattle.cache_tool.specs.Tally.{RoseBy}
 use Rattle.cache_tool.specs.Verbs.{SendsNextFront}
-use Rattle.cache_tool.specs.World.{Progress, Sitting, Supply, sitting_of}
+use Rattle.cache_tool.specs.World.{Progress, Supply, sitting_of}
 use Rattle.cache_tool.specs.declared.script.ScriptEnd.{ScriptEnd}
 use Rattle.cache_tool.specs.declared.script.ScriptEnd.TheVariants as ended
 use Rattle.cache_tool.proofs.Answering.{AnswersByFault, AnswersByReply, AnswersNext}
 use Rattle.cache_tool.proofs.Clearings.{cleared_by, closes_after}
+use Rattle.cache_tool.proofs.Counting.{raised_more}
 use Rattle.cache_tool.proofs.DoneKept.{done_kept_but, done_kept_on}
 use Rattle.cache_tool.proofs.DoneLaws.{done_rebuild, done_right, done_spoken, done_where, script_is_spoken, spoken_parts}
-use Rattle.cache_tool.proofs.FaultedParts.{next_numbers, one_longer, some_next}
+use Rattle.cache_tool.proofs.FaultedParts.{next_numbers, one_longer}
 use Rattle.cache_tool.proofs.ForGood.{no_resume, stops_for_good}
 use Rattle.cache_tool.proofs.MarkLeft.{but_next, kept_next, next_changes_mark, none_change_mark, same_changes_mark, may_mark}
 use Rattle.cache_tool.proofs.Moments.{with_source}
@@ -244,11 +244,6 @@ module _ (before : Progress) where
 
 -- ---- one turn
 
--- an answer that the disk failed comes only where its count rose
-pub answered_rose : {tells : Bool} {c : Command} {f : StoreFault} {before now : Sitting} → AnswersNext tells c (Err f) before now → f ≡ fault.Disk → Rose before.disk_faults now.disk_faults
-answered_rose (later, inl reply) disk = reply.rose (ap (λ x. Err x) disk)
-answered_rose (later, inr line) disk = absurd (line.no_disk (ap (λ x. Err x) disk))
-
 -- what a call of the reader leaves
 pub gives_one : (r q : Reader) (left now : Option (List ℕ)) (answer : Result (Option Given) ScriptFault) (o : Option Given) (c : Given) → answer ≡ Ok o → o ≡ Some c → LeavesReader r q left now answer
     → Gives r q left now (command_of c)
@@ -265,21 +260,13 @@ starts tells r before held given used = record {
   given = given;
   used = used;
   faults = [];
-  counts = record { numbers = tt; counted = omega arith };
-  calm = λ none. refl;
+  counts = record { numbers = tt; counted = refl };
   performs = λ told. none_performed before;
   mark = λ told. none_change_mark [] before.session.disk before.session.disk refl;
   syncs = λ told. omega arith;
 }
 
--- the disk failed as often at least, or once more
-pub counts_on : (n a b c : ℕ) → b ≤ c → RoseBy n a b → RoseBy n a c
-counts_on n a b c later rose = omega arith
-
-pub counts_more : (n a b c : ℕ) → Rose b c → RoseBy n a b → RoseBy (suc n) a c
-counts_more n a b c once rose = omega arith
-
-module _ (tells : Bool) (r q : Reader) (mid now : Progress) (c : Command) (gives : Gives r q mid.source.left now.source.left c) (later : mid.disk_faults ≤ now.disk_faults)
+module _ (tells : Bool) (r q : Reader) (mid now : Progress) (c : Command) (gives : Gives r q mid.source.left now.source.left c)
     (at_clear : IsTrue tells → ChangesAtClear c mid.session.disk now.session.disk)
     (clearing : IsTrue tells → IfSome (origin_cleared c (standing mid.session.disk Clear)) (λ origin. ClearsUnderMark origin mid.session now.session.disk)) (synced : IsTrue tells → SyncsWithin (most_syncs c) mid.disk_counts now.disk_counts) where
   module _ (before : Progress) (goes : HasPerformed tells r before mid) where
@@ -293,11 +280,11 @@ module _ (tells : Bool) (r q : Reader) (mid now : Progress) (c : Command) (gives
     so_used : used_in q ≡ length (script_bytes (goes.commands ++ c ∷ []))
     so_used = gives.used ∙ omega (arith, goes.used, more_length goes.commands c)
 
-    still_counted : RoseBy (length goes.faults) before.disk_faults now.disk_faults
-    still_counted = counts_on (length goes.faults) before.disk_faults mid.disk_faults now.disk_faults later goes.counts.counted
+    still_counted : now.disk_faults ≡ mid.disk_faults → FailedTimes (length goes.faults) before now
+    still_counted calm = calm ∙ goes.counts.counted
 
-    once_more : Rose mid.disk_faults now.disk_faults → RoseBy (suc (length goes.faults)) before.disk_faults now.disk_faults
-    once_more rose = counts_more (length goes.faults) before.disk_faults mid.disk_faults now.disk_faults rose goes.counts.counted
+    once_more : RoseOnce mid.disk_faults now.disk_faults → FailedTimes (suc (length goes.faults)) before now
+    once_more rose = raised_more (length goes.faults) before.disk_faults mid.disk_faults now.disk_faults rose goes.counts.counted
 
     more_numbers : AreFaults (length (goes.commands ++ c ∷ [])) goes.faults
     more_numbers = faults_are_within (length goes.commands) (length (goes.commands ++ c ∷ [])) goes.faults (omega (arith, length-append goes.commands (c ∷ []))) goes.counts.numbers
@@ -330,8 +317,7 @@ module _ (tells : Bool) (r q : Reader) (mid now : Progress) (c : Command) (gives
       given = so_given before goes;
       used = so_used before goes;
       faults = goes.faults;
-      counts = record { numbers = more_numbers before goes; counted = still_counted before goes };
-      calm = λ none. calm ∙ goes.calm none;
+      counts = record { numbers = more_numbers before goes; counted = still_counted before goes calm };
       performs = λ told. one_performed before mid now goes.commands c goes.faults goes.counts.numbers (goes.performs told) o (performs told) (stays told);
       mark = begun_mark before goes;
       syncs = begun_syncs before goes;
@@ -339,7 +325,7 @@ module _ (tells : Bool) (r q : Reader) (mid now : Progress) (c : Command) (gives
   }
 
   -- it was answered by the line
-  faulted_turn : Rose mid.disk_faults now.disk_faults → (IsTrue tells → StaysAs mid.session now.session) → SameBase mid.session.open_store.index.map now.session.open_store.index.map
+  faulted_turn : RoseOnce mid.disk_faults now.disk_faults → (IsTrue tells → StaysAs mid.session now.session) → SameBase mid.session.open_store.index.map now.session.open_store.index.map
       → Appends mid.taken now.taken fault_line → PerformsNext tells (Ok None) r q mid now
   faulted_turn rose stays base said = record {
     on = λ before goes. record {
@@ -350,9 +336,8 @@ module _ (tells : Bool) (r q : Reader) (mid now : Progress) (c : Command) (gives
       faults = with_next (length goes.commands) goes.faults;
       counts = record {
         numbers = next_numbers goes.commands c goes.faults goes.counts.numbers;
-        counted = subst (λ n. RoseBy n before.disk_faults now.disk_faults) (one_longer goes.faults (suc (length goes.commands))) (once_more before goes rose);
+        counted = subst (λ n. FailedTimes n before now) (one_longer goes.faults (suc (length goes.commands))) (once_more before goes rose);
       };
-      calm = λ none. absurd (some_next (length goes.commands) goes.faults none);
       performs = λ told. one_faulted before mid now goes.commands c goes.faults goes.counts.numbers (goes.performs told) (stays told) base said;
       mark = λ told. subst (λ l. ChangeMark l before.session.disk now.session.disk) (sym (but_next goes.commands c goes.faults goes.counts.numbers)) (left_mark before goes stays told);
       syncs = begun_syncs before goes;
@@ -360,19 +345,18 @@ module _ (tells : Bool) (r q : Reader) (mid now : Progress) (c : Command) (gives
   }
 
   pub turn_on : (v : Verdict) → AnswersNext tells c (Ok v) (sitting_of mid) (sitting_of now) → PerformsNext tells (Ok None) r q mid now
-  turn_on v (later_too, inl reply) = replied_on v reply.performs reply.stays (reply.kept (λ e. absurd (cc e)))
-  turn_on v (later_too, inr line) = faulted_turn line.rose line.stays line.base line.printed
+  turn_on v (inl reply) = replied_on v reply.performs reply.stays (reply.kept (λ e. absurd (cc e)))
+  turn_on v (inr line) = faulted_turn line.rose line.stays line.base line.printed
 
   -- a command failed
   turn_off : (f : StoreFault) → AnswersNext tells c (Err f) (sitting_of mid) (sitting_of now) → PerformsNext tells (Err f) r q mid now
-  turn_off f (later_too, answer) = record {
+  turn_off f answer = record {
     on = λ before goes. record {
       commands = goes.commands;
       last = c;
       front = read_front before.source.left now.source.left (goes.commands ++ c ∷ []) (held_in q) (so_read before goes);
       faults = goes.faults;
-      counts = record { numbers = goes.counts.numbers; counted = still_counted before goes };
-      disk = λ e. once_more before goes (answered_rose (later_too, answer) e);
+      numbers = goes.counts.numbers;
       fails = failed before goes answer;
       syncs = begun_syncs before goes;
     };
@@ -384,7 +368,8 @@ module _ (tells : Bool) (r q : Reader) (mid now : Progress) (c : Command) (gives
       failed before goes (inl reply) =
           let spoken = spoken_next before goes in
           inl (record {
-            calm = λ other none. reply.kept (λ e. let is : f ≡ fault.Disk = cc e in other is) ∙ goes.calm none;
+            disk = λ is. once_more before goes (reply.rose (ap (λ x. Err x) is));
+            calm = λ other. still_counted before goes (reply.kept (λ e. let is : f ≡ fault.Disk = cc e in other is));
             each = λ told.
                 one_failed before mid now goes.commands c goes.faults goes.counts.numbers (goes.performs told) f spoken (reply.performs told) (reply.stays told)
                 (λ disk. (reply.last (ap (λ x. Err x) disk) told, reply.for_good (no_resume c spoken) (ap (λ x. Err x) disk) told)) (clearing told);
@@ -392,7 +377,7 @@ module _ (tells : Bool) (r q : Reader) (mid now : Progress) (c : Command) (gives
           })
       failed before goes (inr line) = inr (record {
         no_disk = λ e. line.no_disk (ap (λ x. Err x) e);
-        rose = once_more before goes line.rose;
+        counted = once_more before goes line.rose;
         each = λ told. one_faulted_cut before mid now goes.commands c goes.faults goes.counts.numbers (goes.performs told) (line.stays told) line.base line.cut;
         mark = left_mark before goes line.stays;
       })
@@ -412,7 +397,6 @@ module _ (tells : Bool) (r q : Reader) (mid : Progress) (source : Supply) where
       ends = ends before goes;
       faults = goes.faults;
       counts = record { numbers = goes.counts.numbers; counted = goes.counts.counted };
-      calm = goes.calm;
       performs = λ told. record {
         each = λ h keeps.
             let some = (goes.performs told).each h keeps in

@@ -111,7 +111,7 @@ module _ (m : Machine) (d : Command) (bytes : List ℕ) (cs : List Command) (end
     | inl first ↦ inl (ap (λ n. unfaulted run.with_last (take n cs)) first ∙ kept_same m d bytes cs ended before now run honest resumed cs)
     | inr more ↦ elim run.counts.last [
       | inl none ↦ inr (ap (λ n. unfaulted run.with_last (take n cs)) more ∙ ap (λ f. unfaulted f (take (min (run.acked + 1) (length cs)) cs)) none)
-      | inr next ↦ inl (ap (λ n. unfaulted run.with_last (take n cs)) more ∙ ap (λ f. unfaulted f (take (min (run.acked + 1) (length cs)) cs)) next.0 ∙ ap (unfaulted (with_next run.acked run.faults)) and_next ∙ next_out others)
+      | inr next ↦ inl (ap (λ n. unfaulted run.with_last (take n cs)) more ∙ ap (λ f. unfaulted f (take (min (run.acked + 1) (length cs)) cs)) next ∙ ap (unfaulted (with_next run.acked run.faults)) and_next ∙ next_out others)
     ]
   ]
 

@@ -116,12 +116,30 @@ module _ (m : Machine) (cs : List Command) (out : List ℕ) (before now : World)
         ap (faulted (step m Resume).next cs) none
         ∙ faulted_is_told (step m Resume).next cs 0 [] [] (script_is_spoken cs commands) (omega arith) tt (λ c at. inl refl)
 
-    -- more may have begun
-    abbrev next : List Command
-    next = unfaulted [] (take (min 1 (length cs)) cs)
+  -- so what was printed is told by what the run came to
+  told_by : (P : Faulted → Type 0)
+      → ((bytes : List ℕ) (d : Command) → IsResumedBy (AreAtOpening before.disk m) (mark_of m.mark) m d → (run : PrintsReplies m d bytes cs script.ended before now) → P (record { answered = run.acked; faults = run.faults }))
+      → (HasNotBegun m script.ended (output_of before) (output_of now) → P (record { answered = 0; faults = [] })) → P (told m cs out)
+  told_by P begun unbegun =
+      let came = of_source before.source.left _ (λ bytes. CommandsIn bytes cs) script.clean.call.performs script.spelled in
+      let commands = came.1.1.front.commands in
+      elim (came.1.0 m cs script.clean.call.opened came.1.1) [
+        | inl ran ↦
+            let run = ran.1.1 in
+            let same : out ≡ run.replies.out = out_is_one before.taken now.taken out run.replies.out script.sink script.printed run.replies.printed in
+            let told_is = ap (faulted (step m Resume).next cs) same ∙ told_of_script m ran.0 came.0 cs script.ended before now run honest ran.1.0 (script_is_spoken cs commands) in
+            subst P (sym told_is) (begun came.0 ran.0 ran.1.0 run)
+        | inr failed ↦
+            let none = none_out before.taken now.taken out script.sink script.printed failed.0.silent in
+            subst P (sym (none_told none commands)) (unbegun failed.0)
+      ]
 
-    unbegun : HasNotBegun m script.ended (output_of before) (output_of now) → IsCrashSafe now.disk (marks_told m cs (record { answered = 0; faults = [] }))
-    unbegun failed = crash_more now.disk (step m Resume).next (take (length next) next) (acked_marks m Resume (marks_of m)) (unbegun_crash m script.ended before now script.clean.quiet honest failed)
+  -- more may have begun
+  abbrev next : List Command
+  next = unfaulted [] (take (min 1 (length cs)) cs)
+
+  unbegun_marks : HasNotBegun m script.ended (output_of before) (output_of now) → IsCrashSafe now.disk (marks_told m cs (record { answered = 0; faults = [] }))
+  unbegun_marks failed = crash_more now.disk (step m Resume).next (take (length next) next) (acked_marks m Resume (marks_of m)) (unbegun_crash m script.ended before now script.clean.quiet honest failed)
 
   -- it began
   begun_marks : (bytes : List ℕ) (d : Command) → IsResumedBy (AreAtOpening before.disk m) (mark_of m.mark) m d
@@ -131,19 +149,7 @@ module _ (m : Machine) (cs : List Command) (out : List ℕ) (before now : World)
       subst (IsCrashSafe now.disk) (run_is_of_script before.disk m d cs plain.done run.faults honest resumed plain.as_many plain.are_done status.Done run.acked).marks (plain.crash script.clean.quiet)
 
   pub stopped_marks : IsCrashSafe now.disk (marks_told m cs (told m cs out))
-  stopped_marks =
-      let came = of_source before.source.left _ (λ bytes. CommandsIn bytes cs) script.clean.call.performs script.spelled in
-      let commands = came.1.1.front.commands in
-      elim (came.1.0 m cs script.clean.call.opened came.1.1) [
-        | inl ran ↦
-            let run = ran.1.1 in
-            let same : out ≡ run.replies.out = out_is_one before.taken now.taken out run.replies.out script.sink script.printed run.replies.printed in
-            let told_is = ap (faulted (step m Resume).next cs) same ∙ told_of_script m ran.0 came.0 cs script.ended before now run honest ran.1.0 (script_is_spoken cs commands) in
-            subst (λ t. IsCrashSafe now.disk (marks_told m cs t)) (sym told_is) (begun_marks came.0 ran.0 ran.1.0 run)
-        | inr failed ↦
-            let none = none_out before.taken now.taken out script.sink script.printed failed.0.silent in
-            subst (λ t. IsCrashSafe now.disk (marks_told m cs t)) (sym (none_told none commands)) (unbegun none commands failed.0)
-      ]
+  stopped_marks = told_by (λ t. IsCrashSafe now.disk (marks_told m cs t)) begun_marks unbegun_marks
 
   -- ---- a clearing that comes next
 
@@ -156,7 +162,7 @@ module _ (m : Machine) (cs : List Command) (out : List ℕ) (before now : World)
     same_kept : (bytes : List ℕ) (d : Command) (run : PrintsReplies m d bytes cs script.ended before now) (xs : List Command) → unfaulted run.with_last (take run.acked xs) ≡ unfaulted run.faults (take run.acked xs)
     same_kept bytes d run xs = elim run.counts.last [
       | inl same ↦ ap (λ f. unfaulted f (take run.acked xs)) same
-      | inr (next, rose) ↦ ap (λ f. unfaulted f (take run.acked xs)) next ∙ kept_before_from 1 run.faults (suc run.acked) (take run.acked xs) (let short = length-take run.acked xs in omega (arith, short))
+      | inr next ↦ ap (λ f. unfaulted f (take run.acked xs)) next ∙ kept_before_from 1 run.faults (suc run.acked) (take run.acked xs) (let short = length-take run.acked xs in omega (arith, short))
     ]
 
     -- these are acknowledged, and no more has begun
@@ -171,19 +177,9 @@ module _ (m : Machine) (cs : List Command) (out : List ℕ) (before now : World)
         (run.clearing origin next (inl honest))
 
     stopped_clearing : slice_get cs (told m cs out).answered ≡ Some (ClearOrigin origin) → LeavesOf (told m cs out)
-    stopped_clearing next =
-        let came = of_source before.source.left _ (λ bytes. CommandsIn bytes cs) script.clean.call.performs script.spelled in
-        let commands = came.1.1.front.commands in
-        elim (came.1.0 m cs script.clean.call.opened came.1.1) [
-          | inl ran ↦
-              let run = ran.1.1 in
-              let same : out ≡ run.replies.out = out_is_one before.taken now.taken out run.replies.out script.sink script.printed run.replies.printed in
-              let told_is = ap (faulted (step m Resume).next cs) same ∙ told_of_script m ran.0 came.0 cs script.ended before now run honest ran.1.0 (script_is_spoken cs commands) in
-              subst LeavesOf (sym told_is) (next_cleared came.0 ran.0 ran.1.0 run (subst (λ t. slice_get cs t.answered ≡ Some (ClearOrigin origin)) told_is next))
-          | inr failed ↦
-              let none = none_out before.taken now.taken out script.sink script.printed failed.0.silent in
-              subst LeavesOf (sym (none_told none commands)) (safe_clears_none origin (acked_marks m Resume (marks_of m)) now.disk (unbegun_crash m script.ended before now script.clean.quiet honest failed.0))
-        ]
+    stopped_clearing =
+        told_by (λ t. slice_get cs t.answered ≡ Some (ClearOrigin origin) → LeavesOf t) next_cleared
+        (λ failed comes. safe_clears_none origin (acked_marks m Resume (marks_of m)) now.disk (unbegun_crash m script.ended before now script.clean.quiet honest failed))
 
   pub script_proper : IsProper m
   script_proper = starts_proper script.moment before.disk m script.clean.call.small script.clean.call.opened

@@ -90,7 +90,7 @@ module _ (m : Machine) (d : Command) (bytes : List ℕ) (cs : List Command) (end
   kept_same xs = elim run.counts.last [
     | inl none ↦ ap (λ f. unfaulted f (take run.acked xs)) none
     | inr next ↦
-        ap (λ f. unfaulted f (take run.acked xs)) next.0
+        ap (λ f. unfaulted f (take run.acked xs)) next
         ∙ kept_before_from 1 run.faults (suc run.acked) (take run.acked xs) (let long = length-take run.acked xs in omega (arith, long))
   ]
 
@@ -183,7 +183,7 @@ module _ (m : Machine) (d : Command) (bytes : List ℕ) (cs : List Command) (end
           | inr next ↦
               let left_out : List ℕ = replies_text others rest in
               let same : fault_line ++ (left_out ++ bad) ≡ read.left ++ goes.0 =
-              behind_first first fault_line left_out bad read.left goes.0 (ap (λ l. l ++ bad) (sym (all_by_fault next.0)) ∙ fronted goes.0 goes.1) in
+              behind_first first fault_line left_out bad read.left goes.0 (ap (λ l. l ++ bad) (sym (all_by_fault next)) ∙ fronted goes.0 goes.1) in
               inr (inl (cut_of fault_line read.left (left_out ++ bad) goes.0 same (read.ends next_done at_done).0))
         ]
 

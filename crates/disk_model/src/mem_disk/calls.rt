@@ -2,7 +2,7 @@
 
 ghost use Rattle.std.specs.Prelude.{◌≡◌, ◌≢◌, ◌≤◌, ◌^◌, ◌↔◌, ◌++◌, true, length, take, drop, IfOk, OnOk, IsSome, IsErrOf};
 ghost use Rattle.std.specs.Option.{option_map};
-ghost use Rattle.cache_base.specs.Causes.{HasCause};
+ghost use Rattle.cache_base.specs.Causes.{CountsFailure};
 ghost use Rattle.cache_base.specs.Names.{AreSorted};
 ghost use Rattle.disk_theory.specs.Calls.{counted_change, counted_look, counted_read, counted_sync, if_ok, if_done, MayWriteAt, HoldsPart};
 
@@ -33,7 +33,7 @@ impl Disk for MemDisk {
         ensures state { state_in self.new
             ≡ if_ok result (settled (state_in self.old)) (state_in self.old) }
         ensures counts { counts_in self.new ≡ counted_sync result (counts_in self.old) }
-        ensures cause { HasCause (IsErrOf result DiskFault.Failed)
+        ensures cause { CountsFailure (IsErrOf result DiskFault.Failed)
             (faults_in self.old) (faults_in self.new) }
         ensures fails { IsErrOf result DiskFault.Failed → FailsNext self.old }
         ensures done { OnOk result (¬ (FailsNext self.old)) }
@@ -54,7 +54,7 @@ impl Disk for MemDisk {
             size ≡ option_map length (standing (state_in self.old) place.now)) }
         ensures state { state_in self.new ≡ state_in self.old }
         ensures counts { counts_in self.new ≡ counted_read result place.now (counts_in self.old) }
-        ensures cause { HasCause (IsErrOf result DiskFault.Failed)
+        ensures cause { CountsFailure (IsErrOf result DiskFault.Failed)
             (faults_in self.old) (faults_in self.new) }
         ensures fails { IsErrOf result DiskFault.Failed ↔ FailsNext self.old }
     {
@@ -74,7 +74,7 @@ impl Disk for MemDisk {
             (n ≡ length part) × (buf.new ≡ part ++ drop n buf.old)) }
         ensures state { state_in self.new ≡ state_in self.old }
         ensures counts { counts_in self.new ≡ counted_read result place.now (counts_in self.old) }
-        ensures cause { HasCause (IsErrOf result DiskFault.Failed)
+        ensures cause { CountsFailure (IsErrOf result DiskFault.Failed)
             (faults_in self.old) (faults_in self.new) }
         ensures fails { IsErrOf result DiskFault.Failed ↔ FailsNext self.old }
     {
@@ -91,7 +91,7 @@ impl Disk for MemDisk {
         ensures state { state_in self.new
             ≡ if_done result (created place.now (state_in self.old)) (state_in self.old) }
         ensures counts { counts_in self.new ≡ counted_change result (counts_in self.old) }
-        ensures cause { HasCause (IsErrOf result DiskFault.Failed)
+        ensures cause { CountsFailure (IsErrOf result DiskFault.Failed)
             (faults_in self.old) (faults_in self.new) }
         ensures fails { IsErrOf result DiskFault.Failed → FailsNext self.old }
         ensures done { OnOk result (¬ (FailsNext self.old)) }
@@ -107,7 +107,7 @@ impl Disk for MemDisk {
         ensures state { state_in self.new ≡ if_done result
             (wrote place.now (End from bytes.now) (state_in self.old)) (state_in self.old) }
         ensures counts { counts_in self.new ≡ counted_change result (counts_in self.old) }
-        ensures cause { HasCause (IsErrOf result DiskFault.Failed)
+        ensures cause { CountsFailure (IsErrOf result DiskFault.Failed)
             (faults_in self.old) (faults_in self.new) }
         ensures fails { IsErrOf result DiskFault.Failed → FailsNext self.old }
         ensures done { OnOk result (¬ (FailsNext self.old)) }
@@ -126,7 +126,7 @@ impl Disk for MemDisk {
         ensures state { state_in self.new ≡ if_done result
             (wrote place.now (Patch from bytes.now) (state_in self.old)) (state_in self.old) }
         ensures counts { counts_in self.new ≡ counted_change result (counts_in self.old) }
-        ensures cause { HasCause (IsErrOf result DiskFault.Failed)
+        ensures cause { CountsFailure (IsErrOf result DiskFault.Failed)
             (faults_in self.old) (faults_in self.new) }
         ensures fails { IsErrOf result DiskFault.Failed → FailsNext self.old }
         ensures done { OnOk result (¬ (FailsNext self.old)) }
@@ -145,7 +145,7 @@ impl Disk for MemDisk {
         ensures state { state_in self.new
             ≡ if_done result (renamed from.now to.now (state_in self.old)) (state_in self.old) }
         ensures counts { counts_in self.new ≡ counted_change result (counts_in self.old) }
-        ensures cause { HasCause (IsErrOf result DiskFault.Failed)
+        ensures cause { CountsFailure (IsErrOf result DiskFault.Failed)
             (faults_in self.old) (faults_in self.new) }
         ensures fails { IsErrOf result DiskFault.Failed → FailsNext self.old }
         ensures done { OnOk result (¬ (FailsNext self.old)) }
@@ -160,7 +160,7 @@ impl Disk for MemDisk {
         ensures state { state_in self.new
             ≡ if_done result (removed place.now (state_in self.old)) (state_in self.old) }
         ensures counts { counts_in self.new ≡ counted_change result (counts_in self.old) }
-        ensures cause { HasCause (IsErrOf result DiskFault.Failed)
+        ensures cause { CountsFailure (IsErrOf result DiskFault.Failed)
             (faults_in self.old) (faults_in self.new) }
         ensures fails { IsErrOf result DiskFault.Failed → FailsNext self.old }
         ensures done { OnOk result (¬ (FailsNext self.old)) }
@@ -175,7 +175,7 @@ impl Disk for MemDisk {
         ensures names { OnOk result (AreEntries (state_in self.old) out.new) }
         ensures state { state_in self.new ≡ state_in self.old }
         ensures counts { counts_in self.new ≡ counted_look result (counts_in self.old) }
-        ensures cause { HasCause (IsErrOf result DiskFault.Failed)
+        ensures cause { CountsFailure (IsErrOf result DiskFault.Failed)
             (faults_in self.old) (faults_in self.new) }
         ensures fails { IsErrOf result DiskFault.Failed → FailsNext self.old }
         ensures done { OnOk result (¬ (FailsNext self.old)) }
@@ -192,7 +192,7 @@ impl Disk for MemDisk {
         ensures numbers { OnOk result (AreDoomed (state_in self.old) out.new) }
         ensures state { state_in self.new ≡ state_in self.old }
         ensures counts { counts_in self.new ≡ counted_look result (counts_in self.old) }
-        ensures cause { HasCause (IsErrOf result DiskFault.Failed)
+        ensures cause { CountsFailure (IsErrOf result DiskFault.Failed)
             (faults_in self.old) (faults_in self.new) }
         ensures fails { IsErrOf result DiskFault.Failed → FailsNext self.old }
         ensures done { OnOk result (¬ (FailsNext self.old)) }

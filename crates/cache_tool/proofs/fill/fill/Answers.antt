@@ -36,7 +36,8 @@ returns-in-Done-clause-fills g c = λ told m is.
             (session g.D.Disk c.perform_fill-came.new.store c.perform_fill-came.new.disk) (g.D.Disk.state c.end.new.disk) c.perform_fill-came.new.lines begins m is
             ((c.perform_fill-came.ensures.performs told).each (acked resumed.done (settled_at m)) resumed.leads.keeps) (c.end.ensures.ends told) c.end.ensures.same c.perform_fill-came.ensures.keeps.no_sink
             (c.perform_fill-came.ensures.keeps.honest told) (λ dropped. ap g.D.Disk.state (c.end.ensures.dropped dropped).1)
-            c.print_answer.result (g.K.Sink.taken c.print_answer.new.sink) (inl c.in-Done.is)
+            c.print_answer.result (g.K.Sink.taken c.print_answer.new.sink) (disk_cause c.perform_fill-came.result c.end.result (answers_only c.perform_fill-came.result c.perform_fill-came.ensures.only) (c.in-Ok.ensures.account.cause.kept (λ h. cc)) c.perform_fill-came.ensures.keeps.account.cause c.end.ensures.cause
+            (λ dropped. let left = c.end.ensures.dropped dropped in (left.0, ap g.D.Disk.faults left.1))) (inl c.in-Done.is)
             (subst (Printed c.end.result c.print_answer.result (g.K.Sink.taken c.args.sink.now) (g.K.Sink.taken c.print_answer.new.sink)) c.as_slice.ensures
             (record { same = rw c.in-Done.is c.print_answer.ensures.same; all = c.print_answer.ensures.all; part = c.print_answer.ensures.part; cut = c.print_answer.ensures.cut })),
       ),
@@ -62,7 +63,8 @@ returns-in-No-clause-fills g c = λ told m is.
             (session g.D.Disk c.perform_fill-came.new.store c.perform_fill-came.new.disk) (g.D.Disk.state c.end.new.disk) c.perform_fill-came.new.lines begins m is
             ((c.perform_fill-came.ensures.performs told).each (acked resumed.done (settled_at m)) resumed.leads.keeps) (c.end.ensures.ends told) c.end.ensures.same c.perform_fill-came.ensures.keeps.no_sink
             (c.perform_fill-came.ensures.keeps.honest told) (λ dropped. ap g.D.Disk.state (c.end.ensures.dropped dropped).1)
-            c.print_answer-in-No.result (g.K.Sink.taken c.print_answer-in-No.new.sink) (inr c.in-No.is)
+            c.print_answer-in-No.result (g.K.Sink.taken c.print_answer-in-No.new.sink) (disk_cause c.perform_fill-came.result c.end.result (answers_only c.perform_fill-came.result c.perform_fill-came.ensures.only) (c.in-Ok.ensures.account.cause.kept (λ h. cc)) c.perform_fill-came.ensures.keeps.account.cause c.end.ensures.cause
+            (λ dropped. let left = c.end.ensures.dropped dropped in (left.0, ap g.D.Disk.faults left.1))) (inr c.in-No.is)
             (subst (Printed c.end.result c.print_answer-in-No.result (g.K.Sink.taken c.args.sink.now) (g.K.Sink.taken c.print_answer-in-No.new.sink)) c.as_slice-in-No.ensures
             (record { same = rw c.in-No.is c.print_answer-in-No.ensures.same; all = c.print_answer-in-No.ensures.all; part = c.print_answer-in-No.ensures.part; cut = c.print_answer-in-No.ensures.cut })),
       ),
@@ -80,6 +82,8 @@ returns g c =
     let only = answers_only came c.perform_fill-came.ensures.only in
     let no_sink = ended_no_sink c.end.result (status_in came) (never_sink came only c.perform_fill-came.ensures.keeps.no_sink) c.end.ensures.same in
     let other = no_answer c.end.result c.in_default.not-Done c.in_default.not-No in
+    let cause = disk_cause came c.end.result only (c.in-Ok.ensures.account.cause.kept (λ h. cc)) c.perform_fill-came.ensures.keeps.account.cause c.end.ensures.cause
+    (λ dropped. let left = c.end.ensures.dropped dropped in (left.0, ap g.D.Disk.faults left.1)) in
     record {
       fills = λ told m is.
           let begins = c.in-Ok.ensures.begins told in
@@ -94,7 +98,7 @@ returns g c =
                   (session g.D.Disk c.perform_fill-came.new.store c.perform_fill-came.new.disk) (g.D.Disk.state c.end.new.disk) c.perform_fill-came.new.lines begins m is
                   ((c.perform_fill-came.ensures.performs told).each (acked resumed.done (settled_at m)) resumed.leads.keeps) (c.end.ensures.ends told) c.end.ensures.same c.perform_fill-came.ensures.keeps.no_sink
                   (c.perform_fill-came.ensures.keeps.honest told) (λ dropped. ap g.D.Disk.state (c.end.ensures.dropped dropped).1)
-                  (ended_last LastCallFails came c.end.result (g.D.Disk.counts c.perform_fill-came.new.disk) (g.D.Disk.counts c.end.new.disk) (λ last. inl last) (only_came came only)
+                  cause (ended_last LastCallFails came c.end.result (g.D.Disk.counts c.perform_fill-came.new.disk) (g.D.Disk.counts c.end.new.disk) (λ last. inl last) (only_came came only)
                   (λ closing disk. c.end.ensures.last closing disk told) (λ not. let left = c.end.ensures.dropped not in (left.0, ap g.D.Disk.counts left.1))
                   (λ failed. c.perform_fill-came.ensures.keeps.account.last failed told)) other no_sink,
             ),
@@ -112,9 +116,7 @@ returns g c =
           (c.perform_fill-came.ensures.keeps.account.stops told) (c.end.ensures.stops told) (λ dropped. ap g.D.Disk.counts (c.end.ensures.dropped dropped).1);
       sink = λ sink. absurd (no_sink sink);
       calm = λ answer. absurd (other answer);
-      disk = disk_cause came c.end.result (g.D.Disk.faults c.args.disk.now) (g.D.Disk.faults c.begin.new.disk) (g.D.Disk.faults c.perform_fill-came.new.disk) (g.D.Disk.faults c.end.new.disk)
-          only c.perform_fill-came.ensures.keeps.no_sink (c.in-Ok.ensures.account.cause.kept (λ h. cc)) c.perform_fill-came.ensures.keeps.account.cause c.end.ensures.cause
-          (λ dropped. ((c.end.ensures.dropped dropped).0, ap g.D.Disk.faults (c.end.ensures.dropped dropped).1));
+      disk = cause;
     }
 
 -- what a crash may leave of a mark

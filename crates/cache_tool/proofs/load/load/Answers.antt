@@ -39,7 +39,9 @@ returns-in-Done-clause-loads g c = λ told.
         line_said (IsTrue g.D.Disk.tells) told bytes c.perform_load-came.result c.end.result (world g.S.Source g.K.Sink g.D.Disk c.args.source.now c.args.sink.now c.args.disk.now)
             (g.S.Source.left c.perform_load-came.new.source) mid (session g.D.Disk c.perform_load-came.new.store c.perform_load-came.new.disk) (g.D.Disk.state c.end.new.disk) c.perform_load-came.new.line begins m is from
             c.perform_load-came.ensures.performs (c.end.ensures.ends told) c.end.ensures.same c.perform_load-came.ensures.keeps.no_sink (c.perform_load-came.ensures.keeps.honest told)
-            (λ dropped. ap g.D.Disk.state (c.end.ensures.dropped dropped).1) (c.in-Ok.ensures.account.syncs told) c.print_answer.result (g.K.Sink.taken c.print_answer.new.sink) (c.end.ensures.syncs told) (inl c.in-Done.is)
+            (λ dropped. ap g.D.Disk.state (c.end.ensures.dropped dropped).1) (c.in-Ok.ensures.account.syncs told) c.print_answer.result (g.K.Sink.taken c.print_answer.new.sink)
+            (closing_cause c.perform_load-came.result c.end.result (line_or_source_closes c.perform_load-came.result c.perform_load-came.ensures.only) (c.in-Ok.ensures.account.cause.kept (λ h. cc)) c.perform_load-came.ensures.keeps.account.cause c.end.ensures.cause
+            (λ dropped. let left = c.end.ensures.dropped dropped in (left.0, ap g.D.Disk.faults left.1))) (c.end.ensures.syncs told) (inl c.in-Done.is)
             (subst (SaysLine c.end.result c.print_answer.result (g.K.Sink.taken c.args.sink.now) (g.K.Sink.taken c.print_answer.new.sink)) c.as_slice.ensures
             (record {
               same = rw c.in-Done.is c.print_answer.ensures.same;
@@ -73,7 +75,9 @@ returns-in-Script-clause-loads g c = λ told.
         line_said (IsTrue g.D.Disk.tells) told bytes c.perform_load-came.result c.end.result (world g.S.Source g.K.Sink g.D.Disk c.args.source.now c.args.sink.now c.args.disk.now)
             (g.S.Source.left c.perform_load-came.new.source) mid (session g.D.Disk c.perform_load-came.new.store c.perform_load-came.new.disk) (g.D.Disk.state c.end.new.disk) c.perform_load-came.new.line begins m is from
             c.perform_load-came.ensures.performs (c.end.ensures.ends told) c.end.ensures.same c.perform_load-came.ensures.keeps.no_sink (c.perform_load-came.ensures.keeps.honest told)
-            (λ dropped. ap g.D.Disk.state (c.end.ensures.dropped dropped).1) (c.in-Ok.ensures.account.syncs told) c.print_answer-in-Script.result (g.K.Sink.taken c.print_answer-in-Script.new.sink) (c.end.ensures.syncs told) (inr c.in-Script.is)
+            (λ dropped. ap g.D.Disk.state (c.end.ensures.dropped dropped).1) (c.in-Ok.ensures.account.syncs told) c.print_answer-in-Script.result (g.K.Sink.taken c.print_answer-in-Script.new.sink)
+            (closing_cause c.perform_load-came.result c.end.result (line_or_source_closes c.perform_load-came.result c.perform_load-came.ensures.only) (c.in-Ok.ensures.account.cause.kept (λ h. cc)) c.perform_load-came.ensures.keeps.account.cause c.end.ensures.cause
+            (λ dropped. let left = c.end.ensures.dropped dropped in (left.0, ap g.D.Disk.faults left.1))) (c.end.ensures.syncs told) (inr c.in-Script.is)
             (subst (SaysLine c.end.result c.print_answer-in-Script.result (g.K.Sink.taken c.args.sink.now) (g.K.Sink.taken c.print_answer-in-Script.new.sink)) c.as_slice-in-Script.ensures
             (record {
               same = rw c.in-Script.is c.print_answer-in-Script.ensures.same;
@@ -102,6 +106,8 @@ returns g c =
     let ends = load_ends came ended load.only load.keeps.no_sink c.end.ensures.same in
     let not_sink = never_ends ended status.Sink (λ x. cc) (λ x. cc) (λ x. cc) (λ x. cc) (λ x. cc) ends in
     let not_no = never_ends ended status.No (λ x. cc) (λ x. cc) (λ x. cc) (λ x. cc) (λ x. cc) ends in
+    let cause = closing_cause came ended (line_or_source_closes came c.perform_load-came.ensures.only) (c.in-Ok.ensures.account.cause.kept (λ h. cc)) c.perform_load-came.ensures.keeps.account.cause c.end.ensures.cause
+    (λ dropped. let left = c.end.ensures.dropped dropped in (left.0, ap g.D.Disk.faults left.1)) in
     record {
       loads = λ told.
           loads_told c.args.now ended (world g.S.Source g.K.Sink g.D.Disk c.args.source.now c.args.sink.now c.args.disk.now)
@@ -117,7 +123,7 @@ returns g c =
               none_said (IsTrue g.D.Disk.tells) told bytes came ended (world g.S.Source g.K.Sink g.D.Disk c.args.source.now c.args.sink.now c.args.disk.now)
                   (g.S.Source.left c.perform_load-came.new.source) mid (session g.D.Disk c.perform_load-came.new.store c.perform_load-came.new.disk) (g.D.Disk.state c.end.new.disk) c.perform_load-came.new.line begins m is from
                   load.performs (c.end.ensures.ends told) c.end.ensures.same load.keeps.no_sink (load.keeps.honest told) (λ dropped. ap g.D.Disk.state (c.end.ensures.dropped dropped).1) (c.in-Ok.ensures.account.syncs told)
-                  (ended_last LastCallFails came ended (g.D.Disk.counts c.perform_load-came.new.disk) (g.D.Disk.counts c.end.new.disk) (λ last. inl last) (line_or_source_closes came load.only)
+                  cause (ended_last LastCallFails came ended (g.D.Disk.counts c.perform_load-came.new.disk) (g.D.Disk.counts c.end.new.disk) (λ last. inl last) (line_or_source_closes came load.only)
                   (λ closing disk. c.end.ensures.last closing disk told) (λ not. let left = c.end.ensures.dropped not in (left.0, ap g.D.Disk.counts left.1))
                   (λ failed. load.keeps.account.last failed told)) (c.end.ensures.syncs told) (no_line ended not_done not_script) not_sink not_no,
             ),
@@ -138,9 +144,7 @@ returns g c =
       source = λ source. load.source.rose (source_came came ended c.end.ensures.same source);
       sink = λ sink. absurd (not_sink sink);
       calm = λ said. absurd (none_told ended not_done not_script not_no said);
-      disk = closing_cause came ended (g.D.Disk.faults c.args.disk.now) (g.D.Disk.faults c.begin.new.disk) (g.D.Disk.faults c.perform_load-came.new.disk) (g.D.Disk.faults c.end.new.disk)
-          (line_or_source_closes came load.only) load.keeps.no_sink (c.in-Ok.ensures.account.cause.kept (λ h. cc)) load.keeps.account.cause c.end.ensures.cause
-          (λ dropped. ((c.end.ensures.dropped dropped).0, ap g.D.Disk.faults (c.end.ensures.dropped dropped).1));
+      disk = cause;
     }
 
 -- what a crash may leave of a mark

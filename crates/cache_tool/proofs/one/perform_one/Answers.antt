@@ -1,7 +1,7 @@
 -- What the command came to, where the run began and where it did not.
 use Rattle.std.proofs.Common.{◌≡◌, ◌⊎◌, ◌∙◌, IfSome, ap, arith, inl, inr, refl, subst, sym, [], ◌∷◌}
 use Rattle.std.specs.Io.KnownBytes.{Appends}
-use Rattle.cache_base.specs.Causes.{Rose}
+use Rattle.cache_base.specs.Causes.{CountsFailure, Rose}
 use Rattle.cache_script.specs.Command.{command_of}
 use Rattle.cache_store.specs.Clearing.{origin_cleared}
 use Rattle.cache_store.specs.DoneFor.{IsDoneFor}
@@ -28,12 +28,13 @@ use Rattle.cache_tool.proofs.DoneLaws.{done_right, done_spoken}
 use Rattle.cache_tool.proofs.EntryLooks.{looks_none, nothing_to_read, reads_none}
 use Rattle.cache_tool.proofs.ForGood.{disk_drops, no_resume, stops_for_good}
 use Rattle.cache_tool.proofs.MarkLeft.{closed_leaves_mark, leaves_mark, none_leaves_mark, one_changes_mark, may_mark}
-use Rattle.cache_tool.proofs.OneCommand.{came_ending, closes_with, came_open, faulted_prints, none_read, not_begun, performed_prints, rose_twice}
-use Rattle.cache_tool.proofs.Puts.PutEnds.{put_stops}
+use Rattle.cache_tool.proofs.OneCommand.{came_ending, closes_with, came_closes, came_open, faulted_prints, none_read, not_begun, performed_prints, rose_twice, same_ending}
+use Rattle.cache_tool.proofs.Puts.PutEnds.{closing_cause, put_stops}
 use Rattle.cache_tool.proofs.SessionEnds.{next_done, resumed_done, resumed_tells}
 use Rattle.cache_tool.proofs.StatusLaws.{closes_or_not}
 use Rattle.cache_tool.proofs.StayingLaws.{stays_done, stays_for}
 use Rattle.context_clear.specs.Mark.{mark_of}
+use Rattle.disk_theory.specs.Account.{Ending}
 use Rattle.disk_theory.specs.Calls.{LastCallFails}
 use Rattle.disk_theory.specs.State.{standing}
 use Rattle.disk_theory.specs.declared.place.Place.TheVariants.{Clear}
@@ -51,8 +52,7 @@ returns-then-faulting-clause-answers g c = λ tells m is.
     let command = c.attempt-answered.ensures in
     let same : g.K.Sink.taken c.attempt-answered.new.sink ≡ g.K.Sink.taken c.args.sink.now = ap (λ k. g.K.Sink.taken k) (command.silent failed) in
     let calm : g.D.Disk.faults c.begin.new.disk ≡ g.D.Disk.faults c.args.disk.now = c.in-Ok.ensures.account.cause.kept (λ e. cc e) in
-    let rose = (command.looked failed).cause.rose refl in
-    let later = c.end_faulted.ensures.later in
+    let looked = command.looked failed in
     let begins = c.in-Ok.ensures.begins tells in
     let s = g.D.Disk.state c.args.disk.now in
     let mid = session g.D.Disk c.in-Ok.store c.begin.new.disk in
@@ -62,11 +62,10 @@ returns-then-faulting-clause-answers g c = λ tells m is.
         resumed_done s mid begins m is (g.met.D.Disk.finite c.args.disk.now tells),
         inr (faulted_prints (output g.K.Sink g.D.Disk c.args.sink.now c.args.disk.now) (output g.K.Sink g.D.Disk c.end_faulted.new.sink c.end_faulted.new.disk)
             mid (session g.D.Disk c.attempt-answered.new.self c.attempt-answered.new.disk) begins m is c.end_faulted.result (command.stays failed tells) (command.same_base failed) (c.end_faulted.ensures.ends tells)
-            c.end_faulted.ensures.failed (omega (arith, calm, rose, later))
+            c.end_faulted.ensures.failed
             (subst (λ taken. IsPart taken (g.K.Sink.taken c.end_faulted.new.sink) fault_line) same c.end_faulted.ensures.part)
             (λ disk. subst (λ k. Appends (g.K.Sink.taken k) (g.K.Sink.taken c.end_faulted.new.sink) fault_line ⊎ Rose (g.K.Sink.faults k) (g.K.Sink.faults c.end_faulted.new.sink)) (command.silent failed) (c.end_faulted.ensures.said disk))
-            (λ disk. rose_twice (g.D.Disk.faults c.args.disk.now) (g.D.Disk.faults c.begin.new.disk) (g.D.Disk.faults c.attempt-answered.new.disk) (g.D.Disk.faults c.end_faulted.new.disk) calm rose tells
-            (c.end_faulted.ensures.closed disk))),
+            (rose_twice calm (looked.cause.rose refl) (looked.no_change tells ∙ c.in-Ok.ensures.account.went_on refl tells) tells c.end_faulted.ensures.closed)),
       ),
     )
 
@@ -82,6 +81,9 @@ returns-clause-answers g c = λ tells m is.
     let last = session g.D.Disk c.attempt-answered.new.self c.attempt-answered.new.disk in
     let does = (c.attempt-answered.ensures.does.reply.performs tells).crash (acked resumed.done (settled_at m)) resumed.leads.keeps in
     let done = done_right mid command next does.0 does.1.0 in
+    let cause = closing_cause c.map.result c.end.result (came_closes c.attempt-answered.result c.map.result c.map.ensures.cases) (c.in-Ok.ensures.account.cause.kept (λ e. cc e))
+    (subst (λ e. CountsFailure (e ≡ Ending.OneFailed) (g.D.Disk.faults c.begin.new.disk) (g.D.Disk.faults c.attempt-answered.new.disk)) (same_ending c.attempt-answered.result c.map.result c.map.ensures.cases) c.attempt-answered.ensures.does.calls.account.cause)
+    c.end.ensures.cause (λ not. let kept = c.end.ensures.dropped not in (kept.0, ap (λ d. g.D.Disk.faults d) kept.1)) in
     let stays = stays_for command c.attempt-answered.result mid last (λ spares. c.attempt-answered.ensures.does.files.index spares tells) c.attempt-answered.ensures.does.files.base
     (λ had. dated_by g.D.Disk command c.attempt-answered.result c.in-Ok.store c.attempt-answered.new.self c.begin.new.disk c.attempt-answered.new.disk c.attempt-answered.ensures.does.files had tells (g.met.D.Disk.sound c.begin.new.disk tells)) in
     inl (
@@ -94,7 +96,7 @@ returns-clause-answers g c = λ tells m is.
             next_done s mid begins m is finite command does.0 does.1.0,
             (
               performed_prints (output g.K.Sink g.D.Disk c.args.sink.now c.args.disk.now) (output g.K.Sink g.D.Disk c.attempt-answered.new.sink c.end.new.disk) mid last begins m is c.end.result
-                  does.0 (c.end.ensures.ends tells) c.attempt-answered.result c.map.result (done_spoken (Tells mid next) command next does.0 done c.requires.spoken) does.1.1.performs does.1.1.keeps
+                  does.0 (c.end.ensures.ends tells) cause c.attempt-answered.result c.map.result (done_spoken (Tells mid next) command next does.0 done c.requires.spoken) does.1.1.performs does.1.1.keeps
                   (λ had. stays_done (Tells mid next) command mid next last does.0 done (stays next (represents resumed.leads.keeps) had)) (c.attempt-answered.ensures.always.honest tells) c.map.ensures.cases c.end.ensures.same
                   (λ not. let kept = c.end.ensures.dropped not in (kept.0, ap (λ d. g.D.Disk.state d) kept.1))
                   (λ closing disk. c.end.ensures.last closing disk tells)

@@ -2,6 +2,7 @@
 -- performed.
 use Rattle.std.proofs.Common.{arith, rules, ◌≡◌, ◌∙◌, None, Some, ap, refl, subst, sym}
 use Rattle.std.specs.Option.{option_map}
+use Rattle.cache_tool.proofs.Counting.{rose_once}
 use Rattle.cache_tool.proofs.Loads.LoadEnds.{dump_is_not_bad}
 use Rattle.cache_tool.proofs.MarkLeft.{idle_leaves_mark}
 use Rattle.cache_tool.proofs.RunComplete.{nothing_failed, script_is_not_bad}
@@ -45,7 +46,7 @@ returns-in-Some-Load-clause-complete g c = λ some whole source sink disk.
     let words : asked_in c.args.words.now ≡ Some (Asked.Load c.in-Some-Load.now) = sym c.read_words.ensures.asked ∙ ap (λ r. option_map asked r) (c.in-Some-Load.is ∙ ap (λ a. Some a) c.in-Some-Load.field-0-is) in
     let spelled : IsDumpOf (g.S.Source.left c.args.source.now) = subst (λ words. IsWhole words (g.S.Source.left c.args.source.now)) words whole in
     nothing_failed c.load.result c.load.ensures.others.0 (λ is. dump_is_not_bad (g.S.Source.left c.args.source.now) spelled (c.load.ensures.undumped is))
-    (λ is. source (c.load.ensures.source is)) (λ is. sink (c.load.ensures.sink is)) (λ is. disk (c.load.ensures.disk.rose is))
+    (λ is. source (c.load.ensures.source is)) (λ is. sink (c.load.ensures.sink is)) (λ is. disk (rose_once (g.D.Disk.faults c.args.disk.now) (g.D.Disk.faults c.load.new.disk) (c.load.ensures.disk.rose is)))
 
 -- what a crash may leave of a mark
 pub returns-in-Some-One-clause-mark : goal.returns-in-Some-One-clause-mark

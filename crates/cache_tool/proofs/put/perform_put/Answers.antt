@@ -14,7 +14,7 @@ use Rattle.cache_tool.specs.World.{supply}
 use Rattle.disk_theory.specs.Account.{Accounts, Ending, no_sync, one_sync}
 use Rattle.file_handles.proofs.Accounting.{accounts_sum, accounts_then}
 use Rattle.cache_tool.proofs.Faulting.{is_false}
-use Rattle.cache_tool.proofs.Handed.{handed_on, handed_open, keeps_handed}
+use Rattle.cache_tool.proofs.Handed.{handed_on, keeps_handed}
 use Rattle.cache_tool.proofs.MarkLeft.{stays_mark, then_stays}
 use Rattle.cache_tool.proofs.Puts.PutReplies.{sent_itself, sent_keeps}
 use Rattle.cache_tool.proofs.RightLaws.{open_leaves_honest}

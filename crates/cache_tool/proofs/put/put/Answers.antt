@@ -1,4 +1,4 @@
-use Rattle.std.proofs.Common.{◌≡◌, ◌∙◌, arith, inl, inr, refl, sym, ap, subst, []}
+use Rattle.std.proofs.Common.{◌≡◌, ◌∙◌, inl, inr, refl, sym, ap, subst, []}
 use Rattle.std.specs.Io.KnownBytes.{Appends}
 use Rattle.cache_replies.specs.Saying.{IsPart}
 use Rattle.cache_store.specs.Session.{session}
@@ -8,6 +8,7 @@ use Rattle.cache_tool.specs.Statuses.{status_in}
 use Rattle.cache_tool.specs.World.{output, supply}
 use Rattle.cache_tool.proofs.SyncLaws.{syncs_run}
 use Rattle.disk_theory.specs.Account.{one_sync}
+use Rattle.cache_tool.proofs.Counting.{rose_once}
 use Rattle.cache_tool.proofs.Growing.{takes_none, takes_part}
 use Rattle.cache_tool.proofs.ForGood.{ended_last, only_came}
 use Rattle.cache_tool.proofs.MarkLeft.{closed_leaves_mark, kept_change_mark, leaves_mark}
@@ -39,7 +40,8 @@ returns-in-Done-clause-stores g c = λ told some m is.
             mid (session g.D.Disk c.perform_put-came.new.store c.perform_put-came.new.disk) (g.D.Disk.state c.end.new.disk) (said_in c.perform_put-came.new.said) begins m is
             ((c.perform_put-came.ensures.performs told).each some (acked resumed.done (settled_at m)) resumed.leads.keeps) (c.end.ensures.ends told) c.end.ensures.same
             (c.perform_put-came.ensures.keeps.honest told) (λ dropped. ap g.D.Disk.state (c.end.ensures.dropped dropped).1)
-            c.print_answer.result (g.K.Sink.taken c.print_answer.new.sink) (inl c.in-Done.is)
+            c.print_answer.result (g.K.Sink.taken c.print_answer.new.sink) (disk_cause c.perform_put-came.result c.end.result c.perform_put-came.ensures.only (c.in-Ok.ensures.account.cause.kept (λ h. cc)) c.perform_put-came.ensures.keeps.account.cause c.end.ensures.cause
+            (λ dropped. let left = c.end.ensures.dropped dropped in (left.0, ap g.D.Disk.faults left.1))) (inl c.in-Done.is)
             (subst (Printed c.end.result c.print_answer.result (g.K.Sink.taken c.args.sink.now) (g.K.Sink.taken c.print_answer.new.sink)) c.as_slice.ensures
             (record { same = rw c.in-Done.is c.print_answer.ensures.same; all = c.print_answer.ensures.all; part = c.print_answer.ensures.part; cut = c.print_answer.ensures.cut }))),
       ),
@@ -59,7 +61,8 @@ returns-in-No-clause-stores g c = λ told some m is.
             mid (session g.D.Disk c.perform_put-came.new.store c.perform_put-came.new.disk) (g.D.Disk.state c.end.new.disk) (said_in c.perform_put-came.new.said) begins m is
             ((c.perform_put-came.ensures.performs told).each some (acked resumed.done (settled_at m)) resumed.leads.keeps) (c.end.ensures.ends told) c.end.ensures.same
             (c.perform_put-came.ensures.keeps.honest told) (λ dropped. ap g.D.Disk.state (c.end.ensures.dropped dropped).1)
-            c.print_answer-in-No.result (g.K.Sink.taken c.print_answer-in-No.new.sink) (inr c.in-No.is)
+            c.print_answer-in-No.result (g.K.Sink.taken c.print_answer-in-No.new.sink) (disk_cause c.perform_put-came.result c.end.result c.perform_put-came.ensures.only (c.in-Ok.ensures.account.cause.kept (λ h. cc)) c.perform_put-came.ensures.keeps.account.cause c.end.ensures.cause
+            (λ dropped. let left = c.end.ensures.dropped dropped in (left.0, ap g.D.Disk.faults left.1))) (inr c.in-No.is)
             (subst (Printed c.end.result c.print_answer-in-No.result (g.K.Sink.taken c.args.sink.now) (g.K.Sink.taken c.print_answer-in-No.new.sink)) c.as_slice-in-No.ensures
             (record { same = rw c.in-No.is c.print_answer-in-No.ensures.same; all = c.print_answer-in-No.ensures.all; part = c.print_answer-in-No.ensures.part; cut = c.print_answer-in-No.ensures.cut }))),
       ),
@@ -67,10 +70,8 @@ returns-in-No-clause-stores g c = λ told some m is.
 
 pub returns : goal.returns
 returns g c =
-    let cause =
-    disk_cause c.perform_put-came.result c.end.result (g.D.Disk.faults c.args.disk.now) (g.D.Disk.faults c.begin.new.disk) (g.D.Disk.faults c.perform_put-came.new.disk) (g.D.Disk.faults c.end.new.disk)
-    c.perform_put-came.ensures.only c.perform_put-came.ensures.keeps.no_sink (c.in-Ok.ensures.account.cause.kept (λ h. cc)) c.perform_put-came.ensures.keeps.account.cause c.end.ensures.cause
-    (λ dropped. ((c.end.ensures.dropped dropped).0, ap g.D.Disk.faults (c.end.ensures.dropped dropped).1)) in
+    let cause = disk_cause c.perform_put-came.result c.end.result c.perform_put-came.ensures.only (c.in-Ok.ensures.account.cause.kept (λ h. cc)) c.perform_put-came.ensures.keeps.account.cause c.end.ensures.cause
+    (λ dropped. let left = c.end.ensures.dropped dropped in (left.0, ap g.D.Disk.faults left.1)) in
     record {
       stores = λ told some m is.
           let begins = c.in-Ok.ensures.begins told in
@@ -85,7 +86,7 @@ returns g c =
                   mid (session g.D.Disk c.perform_put-came.new.store c.perform_put-came.new.disk) (g.D.Disk.state c.end.new.disk) (said_in c.perform_put-came.new.said) begins m is
                   ((c.perform_put-came.ensures.performs told).each some (acked resumed.done (settled_at m)) resumed.leads.keeps) (c.end.ensures.ends told) c.end.ensures.same
                   (c.perform_put-came.ensures.keeps.honest told) (λ dropped. ap g.D.Disk.state (c.end.ensures.dropped dropped).1)
-                  (ended_last LastFails c.perform_put-came.result c.end.result (g.D.Disk.counts c.perform_put-came.new.disk) (g.D.Disk.counts c.end.new.disk) (λ last. last) (only_came c.perform_put-came.result c.perform_put-came.ensures.only)
+                  cause (ended_last LastFails c.perform_put-came.result c.end.result (g.D.Disk.counts c.perform_put-came.new.disk) (g.D.Disk.counts c.end.new.disk) (λ last. last) (only_came c.perform_put-came.result c.perform_put-came.ensures.only)
                   (λ closing disk. c.end.ensures.last closing disk told) (λ not. let left = c.end.ensures.dropped not in (left.0, ap g.D.Disk.counts left.1))
                   (λ failed. c.perform_put-came.ensures.change (sym c.faulting.ensures ∙ c.if-faulting.false) failed told))
                   (no_answer c.end.result c.in_default.not-Done c.in_default.not-No) (ended_no_sink c.end.result (status_in c.perform_put-came.result) (never_sink c.perform_put-came.result c.perform_put-came.ensures.only c.perform_put-came.ensures.keeps.no_sink) c.end.ensures.same)),
@@ -110,7 +111,7 @@ returns g c =
       source = λ source. c.perform_put-came.ensures.source (source_came c.perform_put-came.result c.end.result c.end.ensures.same source);
       sink = λ sink. absurd (ended_no_sink c.end.result (status_in c.perform_put-came.result) (never_sink c.perform_put-came.result c.perform_put-came.ensures.only c.perform_put-came.ensures.keeps.no_sink) c.end.ensures.same sink);
       calm = λ answer. absurd (no_answer c.end.result c.in_default.not-Done c.in_default.not-No answer);
-      disk = cause.rose;
+      disk = λ is. rose_once (g.D.Disk.faults c.args.disk.now) (g.D.Disk.faults c.end.new.disk) (cause.rose is);
       disk_first = λ other no_memory. cause.kept other;
     }
 
@@ -128,8 +129,7 @@ returns-then-faulting-clause-stores g c = λ told some m is.
     let disk = c.perform_put-came.ensures.faulted failed in
     let put = c.perform_put-came.ensures in
     let calm : g.D.Disk.faults c.begin.new.disk ≡ g.D.Disk.faults c.args.disk.now = c.in-Ok.ensures.account.cause.kept (λ e. cc e) in
-    let rose = (put.looked disk failed).cause.rose refl in
-    let later = c.end_faulted.ensures.later in
+    let looked = put.looked disk failed in
     let begins = c.in-Ok.ensures.begins told in
     let s = g.D.Disk.state c.args.disk.now in
     let mid = session g.D.Disk c.in-Ok.store c.begin.new.disk in
@@ -140,9 +140,8 @@ returns-then-faulting-clause-stores g c = λ told some m is.
         inr (
           faulted_prints (output g.K.Sink g.D.Disk c.args.sink.now c.args.disk.now) (output g.K.Sink g.D.Disk c.end_faulted.new.sink c.end_faulted.new.disk)
               mid (session g.D.Disk c.perform_put-came.new.store c.perform_put-came.new.disk) begins m is c.end_faulted.result (put.stays disk failed told) (put.same_base disk failed) (c.end_faulted.ensures.ends told)
-              c.end_faulted.ensures.failed (omega (arith, calm, rose, later)) c.end_faulted.ensures.part c.end_faulted.ensures.said
-              (λ is_disk. rose_twice (g.D.Disk.faults c.args.disk.now) (g.D.Disk.faults c.begin.new.disk) (g.D.Disk.faults c.perform_put-came.new.disk) (g.D.Disk.faults c.end_faulted.new.disk) calm rose told
-              (c.end_faulted.ensures.closed is_disk)),
+              c.end_faulted.ensures.failed c.end_faulted.ensures.part c.end_faulted.ensures.said
+              (rose_twice calm (looked.cause.rose refl) (looked.no_change told ∙ c.in-Ok.ensures.account.went_on refl told) told c.end_faulted.ensures.closed),
           ap (supply g.S.Source) (put.unread_fault disk failed),
         ),
       ),

@@ -30,7 +30,7 @@ returns-in_err-command-in-Ok-Some-clause-performs g c =
     (λ calm told. stays_for {T = Verdict} (command_of c.in-Ok-Some.command) (Err c.in_err-command-in-Ok-Some.field-0.0) (session g.D.Disk c.args.store.now c.args.disk.now) (session g.D.Disk c.command.new.self c.command.new.disk)
     (λ spares. (command.does calm).files.index spares told) (command.does calm).files.base
     (λ had. dated_by g.D.Disk (command_of c.in-Ok-Some.command) (Err c.in_err-command-in-Ok-Some.field-0.0) c.args.store.now c.command.new.self c.args.disk.now c.command.new.disk (command.does calm).files had told (g.met.D.Disk.sound c.args.disk.now told))) command.fails in
-    turn_err g.D.Disk.tells c.args.reader.now c.next_command.follows.lender-at-none _ _ (command_of c.in-Ok-Some.command) gives answers.0 command.always.at_clear (λ told. with_told (origin_cleared (command_of c.in-Ok-Some.command) (standing (g.D.Disk.state c.args.disk.now) Clear)) (λ origin. ClearsUnderMark origin (session g.D.Disk c.args.store.now c.args.disk.now) (g.D.Disk.state c.command.new.disk)) told command.always.stopped)
+    turn_err g.D.Disk.tells c.args.reader.now c.next_command.follows.lender-at-none _ _ (command_of c.in-Ok-Some.command) gives command.always.at_clear (λ told. with_told (origin_cleared (command_of c.in-Ok-Some.command) (standing (g.D.Disk.state c.args.disk.now) Clear)) (λ origin. ClearsUnderMark origin (session g.D.Disk c.args.store.now c.args.disk.now) (g.D.Disk.state c.command.new.disk)) told command.always.stopped)
     (λ told. let made = command.always.syncs told in let most = of_most (open_of c.args.store.now).handles (command_of c.in-Ok-Some.command) in omega (arith, made, most)) c.in_err-command-in-Ok-Some.field-0.0
     c.from_residual.result c.from_residual.ensures.1 answers
 
@@ -45,7 +45,7 @@ returns-in_ok-command-in-Ok-Some-clause-performs g c =
     (λ calm told. stays_for {T = Verdict} (command_of c.in-Ok-Some.command) (Ok v) (session g.D.Disk c.args.store.now c.args.disk.now) (session g.D.Disk c.command.new.self c.command.new.disk)
     (λ spares. (command.does calm).files.index spares told) (command.does calm).files.base
     (λ had. dated_by g.D.Disk (command_of c.in-Ok-Some.command) (Ok v) c.args.store.now c.command.new.self c.args.disk.now c.command.new.disk (command.does calm).files had told (g.met.D.Disk.sound c.args.disk.now told))) command.fails in
-    turn_on g.D.Disk.tells c.args.reader.now c.next_command.follows.lender-at-none _ _ (command_of c.in-Ok-Some.command) gives answers.0 command.always.at_clear (λ told. with_told (origin_cleared (command_of c.in-Ok-Some.command) (standing (g.D.Disk.state c.args.disk.now) Clear)) (λ origin. ClearsUnderMark origin (session g.D.Disk c.args.store.now c.args.disk.now) (g.D.Disk.state c.command.new.disk)) told command.always.stopped)
+    turn_on g.D.Disk.tells c.args.reader.now c.next_command.follows.lender-at-none _ _ (command_of c.in-Ok-Some.command) gives command.always.at_clear (λ told. with_told (origin_cleared (command_of c.in-Ok-Some.command) (standing (g.D.Disk.state c.args.disk.now) Clear)) (λ origin. ClearsUnderMark origin (session g.D.Disk c.args.store.now c.args.disk.now) (g.D.Disk.state c.command.new.disk)) told command.always.stopped)
     (λ told. let made = command.always.syncs told in let most = of_most (open_of c.args.store.now).handles (command_of c.in-Ok-Some.command) in omega (arith, made, most)) v answers
 
 pub returns-in-Ok-None-clause-performs : goal.returns-in-Ok-None-clause-performs

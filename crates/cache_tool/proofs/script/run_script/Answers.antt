@@ -1,6 +1,7 @@
 use Rattle.std.proofs.Common.{ap, inl, inr, subst, sym, ◌∙◌}
 use Rattle.cache_tool.specs.Statuses.{IsClosing, status_in}
 use Rattle.cache_tool.specs.World.{progress, world}
+use Rattle.cache_tool.proofs.Accounted.{sink_failed}
 use Rattle.cache_tool.proofs.OneCommand.{none_read}
 use Rattle.cache_tool.proofs.Scripts.ScriptEnds.{runs_ended, runs_not_begun}
 use Rattle.cache_tool.proofs.StatusLaws.{closes_or_not}
@@ -18,13 +19,14 @@ returns-clause-runs g c = λ told.
     runs_ended _ _ _ _ c.args.now c.end.result c.perform_script-came.result (g.D.Disk.state c.args.disk.now) (at c.in-Ok.store c.args.source.now c.args.sink.now c.begin.new.disk)
     (at came.store came.source came.sink came.disk) _ (g.D.Disk.faults c.args.disk.now) (g.D.Disk.faults c.end.new.disk) (c.in-Ok.ensures.account.cause.kept (λ e. cc e))
     (g.met.D.Disk.finite c.args.disk.now told) (c.in-Ok.ensures.begins told) (c.perform_script-came.ensures.performs told) (c.perform_script-came.ensures.honest told) (c.end.ensures.ends told) c.end.ensures.same
-    (λ still. ap (λ d. g.D.Disk.state d) (c.end.ensures.dropped still).1) c.end.ensures.later
+    (λ still. ap (λ d. g.D.Disk.state d) (c.end.ensures.dropped still).1)
     (λ disk. elim (closes_or_not (status_in c.perform_script-came.result)) [
-      | inl closing ↦ inr ((c.end.ensures.cause closing).rose disk, c.end.ensures.last closing disk told)
-      | inr still ↦ inl (sym (c.end.ensures.dropped still).0 ∙ disk, ap (λ d. g.D.Disk.counts d) (c.end.ensures.dropped still).1)
+      | inl closing ↦ inr ((λ is. subst IsClosing is closing), ((c.end.ensures.cause closing).rose disk, c.end.ensures.last closing disk told))
+      | inr still ↦ let left = (c.end.ensures.dropped still).1 in inl (sym (c.end.ensures.dropped still).0 ∙ disk, (ap (λ d. g.D.Disk.counts d) left, ap (λ d. g.D.Disk.faults d) left))
     ])
     (λ sound. elim (closes_or_not (status_in c.perform_script-came.result)) [
       | inl closing ↦ ((λ disk. subst IsClosing disk closing), (c.end.ensures.cause closing).kept sound)
       | inr still ↦ ((λ disk. sound ((c.end.ensures.dropped still).0 ∙ disk)), ap (λ d. g.D.Disk.faults d) (c.end.ensures.dropped still).1)
     ])
+    (λ still. (c.end.ensures.dropped still).0) (λ sink. c.perform_script-came.ensures.account.sink.rose (sink_failed c.perform_script-came.result c.perform_script-came.ensures.status sink))
     (c.in-Ok.ensures.account.syncs told) (c.end.ensures.syncs told)

@@ -1,0 +1,5 @@
+use Rattle.overlay_disk.proofs.Counted.{has_cause}
+use Rattle.overlay_disk.proofs.read_only.ReadOnly.size.Goals as goal
+
+pub returns-clause-cause : goal.returns-clause-cause
+returns-clause-cause g c = has_cause c.size.ensures.cause
